@@ -1,0 +1,5 @@
+pub mod Lookup
+pub mod Lines
+pub mod Loaded
+pub mod Sizes
+pub mod Accepts

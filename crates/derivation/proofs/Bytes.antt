@@ -1,0 +1,50 @@
+-- Laws of derivations as bytes: their length, and that what is laid out as lines is the lines that it says.
+-- Assumes nothing.
+use mathlib.Core.Path.{_≡_, refl, sym, _∙_}
+use mathlib.Core.Bool.{true}
+use mathlib.Core.List.{List}
+use Prim.Native.Nat.{ℕ, _+_, _*_, _≤_, _<_}
+use native.Mathlib.Omega.{arith}
+use native.Mathlib.Nat.{zero-add}
+use lib.ListN.{length, getD, drop}
+use Rattle.columns.specs.Lines.{laidOut, numbersAt, Below, itemsFrom}
+use Rattle.columns.proofs.Lines.{line-length, line-written}
+use Rattle.columns.proofs.Lists.{flat-length, items-listed, lines-written, line-placed}
+use Rattle.facts.proofs.Facts.{fact-eq}
+use Rattle.rules.specs.declared.Line.{Line}
+use Rattle.rules.specs.Derivations.{line}
+use Rattle.derivation.specs.Bytes.{numbers, lineBytes, derivationBytes, lineAt}
+
+pub derivation-length : (d : List Line) → length (derivationBytes d) ≡ 31 * length d
+derivation-length = flat-length lineBytes 31 (λ l. line-length (numbers l))
+
+pub numbers-line : (b : List ℕ) (i : ℕ) → numbersAt 6 b (31 * i) ≡ numbers (lineAt b i)
+unfolding numbersAt lineAt
+numbers-line b i =
+    let e₁ : 31 * i + 5 + 5 ≡ 31 * i + 10 = omega arith in
+    let e₂ : 31 * i + 10 + 5 ≡ 31 * i + 15 = omega arith in
+    let e₃ : 31 * i + 15 + 5 ≡ 31 * i + 20 = omega arith in
+    let e₄ : 31 * i + 20 + 5 ≡ 31 * i + 25 = omega arith in
+    rw (e₁, e₂, e₃, e₄)
+
+line-eq : (k l : Line) → numbers k ≡ numbers l → k ≡ l
+line-eq k l e =
+    let r : k .rule ≡ l .rule = cc in
+    let f : k .first ≡ l .first = cc in
+    let s : k .second ≡ l .second = cc in
+    let t = fact-eq (k .fact) (l .fact) (cc) (cc) (cc) in
+    λ i. record { rule = r i; first = f i; second = s i; fact = t i }
+
+-- bytes whose n lines are all laid out are those of the lines that they say
+pub derivation-written : (b : List ℕ) (n : ℕ) → length b ≡ 31 * n → ((i : ℕ) → i < n → laidOut 6 b (31 * i) ≡ true) → b ≡ derivationBytes (itemsFrom (lineAt b) 0 n)
+derivation-written b n e laid = lines-written 6 numbers b (lineAt b) (numbers-line b) n n 0 e (zero-add n) laid
+
+-- what is laid out says numbers of at most five digits
+pub laid-below : (b : List ℕ) (i : ℕ) → 31 * i + 31 ≤ length b → laidOut 6 b (31 * i) ≡ true → Below (numbers (lineAt b i))
+laid-below b i h e = rw (← numbers-line b i) (line-written 6 b (31 * i) h e .1)
+
+-- a derivation whose numbers have at most five digits is read back from its bytes
+pub line-read-back : (d : List Line) (i : ℕ) (z : Line) → i < length d → Below (numbers (getD d i z)) → (laidOut 6 (derivationBytes d) (31 * i) ≡ true) × (lineAt (derivationBytes d) i ≡ getD d i z)
+line-read-back d i z h below =
+    let p = line-placed 6 numbers (λ l. refl) d i z h below in
+    (p .0, line-eq (lineAt (derivationBytes d) i) (getD d i z) (sym (numbers-line (derivationBytes d) i) ∙ p .1))

@@ -1,0 +1,142 @@
+-- Laws of facts: no fault exactly where well-formed, terms within 16 bits, and a strict total order.
+-- Assumes nothing.
+use mathlib.Core.Path.{_≡_, refl, sym}
+use mathlib.Core.Logic.{_↔_, _⊎_, inl, inr}
+use mathlib.Core.Bool.{Bool, true, false, cond, _&&_, _||_}
+use Prim.Native.Nat.{ℕ, _≤_, _<_}
+use native.Mathlib.Omega.{arith}
+use lib.Dec.{T, eqb, ltb}
+use mir.Facts.{and-yes, yes-and}
+use borrow.Author.Tests.{eqb-true, eqb-false, ltb-true, ltb-false, eq-eqb, ne-eqb, lt-ltb}
+use Rattle.facts.specs.declared.Fact.{Fact}
+use Rattle.facts.specs.declared.Refusal.{Refusal}
+use Rattle.facts.specs.declared.Verdict.{Verdict}
+use Rattle.facts.specs.declared.Verdict.the-variants.{Sound, Faulty}
+use Rattle.facts.specs.Terms.{kindOf, isNoTerm, isVocabulary, isName, isLiteral, isBlank}
+use Rattle.facts.specs.Facts.{fact, isNode, isPredicate, wellFormed, hasNoTerm, hasBlank, misplaced, faultOf, before}
+use Rattle.facts.proofs.Terms.{by-cases, T-of, of-T, none-of, node-clean, clean-node, predicate-clean, clean-predicate, term-within}
+
+-- facts with the same three terms are the same
+pub fact-eq : (a b : Fact) → a .subject ≡ b .subject → a .predicate ≡ b .predicate → a .object ≡ b .object → a ≡ b
+fact-eq a b p q r = λ i. record { subject = p i; predicate = q i; object = r i }
+
+-- ---- well-formed facts
+
+-- the three parts of being well-formed
+pub parts : (f : Fact) → T (wellFormed f) → T (isNode (f .subject)) × T (isPredicate (f .predicate)) × T (isNode (f .object))
+unfolding wellFormed
+parts f w =
+    let x = and-yes (isNode (f .subject) && isPredicate (f .predicate)) (isNode (f .object)) w in
+    let y = and-yes (isNode (f .subject)) (isPredicate (f .predicate)) (x .0) in
+    (y .0, y .1, x .1)
+
+pub whole : (f : Fact) → T (isNode (f .subject)) → T (isPredicate (f .predicate)) → T (isNode (f .object)) → T (wellFormed f)
+unfolding wellFormed
+whole f s p o = yes-and (isNode (f .subject) && isPredicate (f .predicate)) _ (yes-and (isNode (f .subject)) _ s p) o
+
+-- a test that is not refused
+passed : (b : Bool) (r : Refusal) (v : Verdict) → cond b (Faulty r) v ≡ Sound → (b ≡ false) × (v ≡ Sound)
+passed false r v e = (refl, e)
+passed true r v e = let z : _≡_ {A = ℕ} 0 1 = cc in absurd (omega arith)
+
+sound-formed : (f : Fact) → faultOf f ≡ Sound → T (wellFormed f)
+unfolding faultOf isNode isPredicate
+sound-formed f e =
+    let a = passed (hasNoTerm f) _ _ e in
+    let b = passed (hasBlank f) _ _ (a .1) in
+    let c = passed (misplaced f) _ _ (b .1) in
+    let x = none-of (isNoTerm (kindOf (f .subject))) (isNoTerm (kindOf (f .predicate))) (isNoTerm (kindOf (f .object))) (a .0) in
+    let y = none-of (isBlank (kindOf (f .subject))) (isBlank (kindOf (f .predicate))) (isBlank (kindOf (f .object))) (b .0) in
+    let z = none-of (isVocabulary (kindOf (f .subject))) (isVocabulary (kindOf (f .object))) (isLiteral (kindOf (f .predicate))) (c .0) in
+    whole f (clean-node (kindOf (f .subject)) (x .0) (y .0) (z .0)) (clean-predicate (kindOf (f .predicate)) (x .1) (y .1) (z .2)) (clean-node (kindOf (f .object)) (x .2) (y .2) (z .1))
+
+formed-sound : (f : Fact) → T (wellFormed f) → faultOf f ≡ Sound
+unfolding faultOf isNode isPredicate
+formed-sound f w =
+    let p = parts f w in
+    let s = node-clean (kindOf (f .subject)) (p .0) in
+    let q = predicate-clean (kindOf (f .predicate)) (p .1) in
+    let o = node-clean (kindOf (f .object)) (p .2) in
+    rw (s .0, q .0, o .0, s .1, q .1, o .1, s .2, o .2, q .2)
+
+-- a fact earns none of 3, 4, 5 exactly where it is well-formed
+pub fault-none : (f : Fact) → faultOf f ≡ Sound ↔ T (wellFormed f)
+fault-none f = (sound-formed f, formed-sound f)
+
+-- the terms of a well-formed fact fit 16 bits
+pub terms-within : (f : Fact) → T (wellFormed f) → (f .subject ≤ 65535) × (f .predicate ≤ 65535) × (f .object ≤ 65535)
+unfolding isNode isPredicate
+terms-within f w =
+    let p = parts f w in
+    (term-within (f .subject) (node-clean (kindOf (f .subject)) (p .0) .0), term-within (f .predicate) (predicate-clean (kindOf (f .predicate)) (p .1) .0), term-within (f .object) (node-clean (kindOf (f .object)) (p .2) .0))
+
+-- ---- order
+
+-- the three ways in which a comes before b
+pub data Before (a b : Fact) : Type 0 where
+  by-subject : a .subject < b .subject → Before a b
+  by-predicate : a .subject ≡ b .subject → a .predicate < b .predicate → Before a b
+  by-object : a .subject ≡ b .subject → a .predicate ≡ b .predicate → a .object < b .object → Before a b
+
+before-says : (a b : Fact) → T (before a b) → Before a b
+unfolding before
+before-says a b t =
+    by-cases (eqb (a .subject) (b .subject))
+    (λ e. by-cases (eqb (a .predicate) (b .predicate))
+    (λ g. by-object (eqb-true _ _ e) (eqb-true _ _ g) (ltb-true _ _ (of-T (ltb (a .object) (b .object)) (rw (e, g) at t))))
+    (λ g. by-predicate (eqb-true _ _ e) (ltb-true _ _ (of-T (ltb (a .predicate) (b .predicate)) (rw (e, g) at t)))))
+    (λ e. by-subject (ltb-true _ _ (of-T (ltb (a .subject) (b .subject)) (rw e at t))))
+
+before-is : (a b : Fact) → Before a b → T (before a b)
+unfolding before
+before-is a b (by-subject h) = rw (ne-eqb (a .subject) (b .subject) (λ e. omega arith), lt-ltb _ _ h) tt
+before-is a b (by-predicate e h) = rw (eq-eqb (a .subject) (b .subject) e, ne-eqb (a .predicate) (b .predicate) (λ g. omega arith), lt-ltb _ _ h) tt
+before-is a b (by-object e g h) = rw (eq-eqb (a .subject) (b .subject) e, eq-eqb (a .predicate) (b .predicate) g, lt-ltb _ _ h) tt
+
+pub before-iff : (a b : Fact) → T (before a b) ↔ Before a b
+before-iff a b = (before-says a b, before-is a b)
+
+-- nothing comes before itself
+pub before-irreflexive : (a : Fact) → T (before a a) → ⊥
+before-irreflexive a t = go (before-says a a t)
+  where
+    go : Before a a → ⊥
+    go (by-subject h) = omega arith
+    go (by-predicate e h) = omega arith
+    go (by-object e g h) = omega arith
+
+pub before-transitive : (a b c : Fact) → T (before a b) → T (before b c) → T (before a c)
+before-transitive a b c s t = before-is a c (go (before-says a b s) (before-says b c t))
+  where
+    go : Before a b → Before b c → Before a c
+    go (by-subject h) (by-subject k) = by-subject (omega arith)
+    go (by-subject h) (by-predicate e k) = by-subject (omega arith)
+    go (by-subject h) (by-object e g k) = by-subject (omega arith)
+    go (by-predicate e h) (by-subject k) = by-subject (omega arith)
+    go (by-predicate e h) (by-predicate e′ k) = by-predicate (omega arith) (omega arith)
+    go (by-predicate e h) (by-object e′ g k) = by-predicate (omega arith) (omega arith)
+    go (by-object e g h) (by-subject k) = by-subject (omega arith)
+    go (by-object e g h) (by-predicate e′ k) = by-predicate (omega arith) (omega arith)
+    go (by-object e g h) (by-object e′ g′ k) = by-object (omega arith) (omega arith) (omega arith)
+
+abbrev Ways : ℕ → ℕ → Type 0
+Ways x y = (x < y) ⊎ ((x ≡ y) ⊎ (y < x))
+
+three-ways : (x y : ℕ) → Ways x y
+three-ways x y =
+    by-cases (ltb x y) (λ e. inl (ltb-true x y e))
+    (λ e. by-cases (ltb y x) (λ g. inr (inr (ltb-true y x g)))
+    (λ g. inr (inl (omega (arith, ltb-false x y e, ltb-false y x g)))))
+
+-- of two facts one comes before the other, or they are the same
+pub before-total : (a b : Fact) → T (before a b) ⊎ ((a ≡ b) ⊎ T (before b a))
+before-total a b = go (three-ways (a .subject) (b .subject)) (three-ways (a .predicate) (b .predicate)) (three-ways (a .object) (b .object))
+  where
+    go : Ways (a .subject) (b .subject) → Ways (a .predicate) (b .predicate) → Ways (a .object) (b .object) → T (before a b) ⊎ ((a ≡ b) ⊎ T (before b a))
+    go (inl h) p o = inl (before-is a b (by-subject h))
+    go (inr (inr h)) p o = inr (inr (before-is b a (by-subject h)))
+    go (inr (inl e)) (inl h) o = inl (before-is a b (by-predicate e h))
+    go (inr (inl e)) (inr (inr h)) o = inr (inr (before-is b a (by-predicate (sym e) h)))
+    go (inr (inl e)) (inr (inl g)) (inl h) = inl (before-is a b (by-object e g h))
+    go (inr (inl e)) (inr (inl g)) (inr (inr h)) = inr (inr (before-is b a (by-object (sym e) (sym g) h)))
+    go (inr (inl e)) (inr (inl g)) (inr (inl h)) = inr (inl (fact-eq a b e g h))

@@ -1,0 +1,9 @@
+pub mod Tests
+pub mod Graph
+pub mod Derivations
+pub mod Steps
+pub mod Paths
+pub mod Joins
+pub mod Printed
+pub mod Fewest
+pub mod Chosen

@@ -1,0 +1,4 @@
+pub mod Scans
+pub mod Rows
+pub mod Lists
+pub mod Tables

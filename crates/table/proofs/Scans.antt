@@ -1,0 +1,58 @@
+-- Laws of verdicts and scans.
+-- Assumes nothing.
+use mathlib.Core.Path.{_≡_, refl, sym, ap, _∙_}
+use mathlib.Core.Bool.{Bool, true, false, cond, not, _||_}
+use mathlib.Core.List.{List, [], _∷_}
+use Prim.Native.Nat.{ℕ, zero, suc, _+_, _-_, _<_}
+use native.Mathlib.Omega.{arith}
+use native.Mathlib.Numerals.{add-one}
+use lib.Dec.{eqb}
+use borrow.Author.Tests.{eqb-false, eq-eqb}
+use Rattle.facts.specs.declared.Fact.{Fact}
+use Rattle.facts.specs.declared.Refusal.{Refusal}
+use Rattle.facts.specs.declared.Refusal.the-variants.{Column, Term, Blank, Part, Order}
+use Rattle.facts.specs.declared.Verdict.{Verdict}
+use Rattle.facts.specs.declared.Verdict.the-variants.{Sound, Faulty}
+use Rattle.facts.specs.Facts.{hasNoTerm, hasBlank, misplaced, faultOf, before}
+use Rattle.facts.proofs.Terms.{by-cases}
+use Rattle.table.specs.declared.Scan.{Scan}
+use Rattle.table.specs.declared.Scan.the-variants.{Passes, Stops}
+use Rattle.table.specs.Scans.{above, earns, tried, firstEarned, onward, scan}
+use Rattle.table.specs.Judged.{orElse, judged}
+
+-- tests in a row, the last of them apart
+in-turn : (a b c d : Bool) (x y z w : Refusal)
+    → cond a (Faulty x) (cond b (Faulty y) (cond c (Faulty z) (cond (not d) (Faulty w) Sound)))
+    ≡ orElse (cond a (Faulty x) (cond b (Faulty y) (cond c (Faulty z) Sound))) (cond d Sound (Faulty w))
+unfolding orElse
+in-turn true b c d x y z w = refl
+in-turn false true c d x y z w = refl
+in-turn false false true d x y z w = refl
+in-turn false false false true x y z w = refl
+in-turn false false false false x y z w = refl
+
+positive : (i : ℕ) → (i ≡ 0 → ⊥) → 0 < i
+positive zero n = absurd (n refl)
+positive (suc i) n = omega arith
+
+above-last : (at : ℕ → Fact) (i : ℕ) (last : Fact) → (0 < i → last ≡ at (i - 1)) → above at i ≡ eqb i 0 || before last (at i)
+unfolding above
+above-last at i last h = by-cases (eqb i 0) (λ e. rw e) (λ e. let n = eqb-false i 0 e in rw (e, h (positive i n)))
+
+-- a line that is laid out is judged by its fact and the fact before it
+pub judged-line : (at : ℕ → Fact) (i : ℕ) (last : Fact) → (0 < i → last ≡ at (i - 1)) → firstEarned (earns true at i) tried ≡ judged (eqb i 0) last (at i)
+unfolding firstEarned earns judged faultOf
+judged-line at i last h = rw (← above-last at i last h) (in-turn (hasNoTerm (at i)) (hasBlank (at i)) (misplaced (at i)) (above at i) Term Blank Part Order)
+
+-- a scan goes on behind a line that is sound, and stops at one that is not
+pub scan-on : (judge : ℕ → Verdict) (n i : ℕ) → i < n → judge i ≡ Sound → scan judge i (n - i) ≡ scan judge (i + 1) (n - (i + 1))
+unfolding scan onward
+scan-on judge n i h e = let m : n - i ≡ suc (n - (i + 1)) = omega arith in rw (m, e, add-one)
+
+pub scan-stop : (judge : ℕ → Verdict) (n i : ℕ) {r : Refusal} → i < n → judge i ≡ Faulty r → scan judge i (n - i) ≡ Stops r (i + 1)
+unfolding scan onward
+scan-stop judge n i h e = let m : n - i ≡ suc (n - (i + 1)) = omega arith in rw (m, e, add-one)
+
+pub scan-end : (judge : ℕ → Verdict) (n i : ℕ) → i ≡ n → scan judge i (n - i) ≡ Passes n
+unfolding scan
+scan-end judge n i e = let m : n - i ≡ zero = omega arith in rw (m, e)

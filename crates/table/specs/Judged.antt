@@ -1,0 +1,32 @@
+-- What a line or a fact is judged by: itself and the fact before it.
+-- Assumes nothing.
+use mathlib.Core.Path.{_≡_}
+use mathlib.Core.Bool.{Bool, cond, _||_}
+use mathlib.Core.List.{List}
+use Prim.Native.Nat.{ℕ, _+_, _-_, _*_, _≤_, _<_}
+use lib.ListN.{length}
+use Rattle.facts.specs.declared.Fact.{Fact}
+use Rattle.facts.specs.declared.Refusal.the-variants.{Order}
+use Rattle.facts.specs.declared.Verdict.{Verdict}
+use Rattle.facts.specs.declared.Verdict.the-variants.{Sound, Faulty}
+use Rattle.facts.specs.Facts.{faultOf, before}
+use Rattle.table.specs.Tables.{lineFact, rowFact}
+
+-- a verdict, or else another
+unfoldable pub orElse : Verdict → Verdict → Verdict
+orElse Sound v = v
+orElse (Faulty r) v = Faulty r
+
+-- the first of 3 to 6 that f earns, with last the fact before it, if it is not the first
+unfoldable pub judged : Bool → Fact → Fact → Verdict
+judged first last f = orElse (faultOf f) (cond (first || before last f) Sound (Faulty Order))
+
+-- line i is there, and last is the fact on the line before, if there is one
+pub record NextLine (b : List ℕ) (i : ℕ) (last : Fact) : Type 0 where
+  pub there : 16 * i + 16 ≤ length b
+  pub before : 0 < i → last ≡ lineFact b (i - 1)
+
+-- the same of a row
+pub record NextFact (row : List ℕ) (i : ℕ) (last : Fact) : Type 0 where
+  pub there : 3 * i + 3 ≤ length row
+  pub before : 0 < i → last ≡ rowFact row (i - 1)
