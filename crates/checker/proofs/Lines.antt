@@ -1,22 +1,20 @@
 -- The lines of a derivation's bytes by their numbers, and how many of them are table lines.
 -- Assumes nothing.
-use mathlib.Core.Path.{_≡_, refl, sym, ap, _∙_}
-use mathlib.Core.Bool.{Bool, true, false, cond}
-use mathlib.Core.Option.{Option, none, some}
-use mathlib.Core.List.{List, [], _∷_, _++_, map}
+use mathlib.Core.Path.{_≡_, refl}
+use mathlib.Core.Bool.{cond}
+use mathlib.Core.Option.{none, some}
+use mathlib.Core.List.{List, [], _∷_, _++_}
 use Prim.Native.Nat.{ℕ, zero, suc, _+_, _-_, _≤_, _<_}
 use native.Mathlib.Omega.{arith}
 use native.Mathlib.Nat.{add-zero, zero-add}
 use native.Mathlib.Numerals.{add-one}
-use lib.ListN.{length}
 use lib.Dec.{eqb}
 use Rattle.columns.specs.Lines.{itemsFrom}
 use Rattle.columns.proofs.Lists.{items-more}
-use Rattle.facts.specs.declared.Fact.{Fact}
 use Rattle.facts.proofs.Terms.{by-cases}
 use Rattle.rules.specs.declared.Line.{Line}
 use Rattle.rules.specs.Graph.{keep}
-use Rattle.rules.specs.Derivations.{factOn, tableFacts, tableLines}
+use Rattle.rules.specs.Derivations.{factOn, tableLines}
 use Rattle.derivation.specs.Bytes.{lineAt}
 use Rattle.checker.specs.Check.{linesOf}
 

@@ -1,16 +1,15 @@
 -- The row that the table's reader leaves for an accepted table: its facts, in ascending order.
 -- Assumes nothing.
-use mathlib.Core.Path.{_≡_, refl, sym, _∙_}
-use mathlib.Core.List.{List, _++_}
-use Prim.Native.Nat.{ℕ, suc, _+_, _*_, _≤_, _<_}
+use mathlib.Core.Path.{_≡_, _∙_}
+use mathlib.Core.List.{List}
+use Prim.Native.Nat.{ℕ, suc, _≤_, _<_}
 use native.Mathlib.Omega.{arith}
-use lib.ListN.{length, getD, drop, length-append}
-use Rattle.columns.specs.Lines.{over, itemsFrom}
-use Rattle.columns.proofs.Parts.{over-length}
+use lib.ListN.{length, getD, drop}
+use Rattle.columns.specs.Lines.{over}
 use Rattle.facts.specs.declared.Fact.{Fact}
 use Rattle.facts.specs.Facts.{fact}
 use Rattle.table.specs.Tables.{rowOf, rowFact, tableOf, accepted, loaded}
-use Rattle.table.proofs.Rows.{row-length, loaded-accepted}
+use Rattle.table.proofs.Rows.{loaded-accepted}
 use Rattle.table.proofs.Lists.{ascends-at}
 use Rattle.table.proofs.Tables.{tableOf-accepted, row-at, row-items}
 use Rattle.checker.specs.Holds.{rowFacts, Ascends}

@@ -8,7 +8,6 @@ use lib.ListN.{length}
 use lib.Dec.{eqb, ltb}
 use Rattle.columns.specs.Lines.{laidOut, itemsFrom}
 use Rattle.facts.specs.declared.Fact.{Fact}
-use Rattle.facts.specs.declared.Refusal.{Refusal}
 use Rattle.facts.specs.declared.Refusal.the-variants.{Form, Step, End}
 use Rattle.facts.specs.declared.Verdict.{Verdict}
 use Rattle.facts.specs.declared.Verdict.the-variants.{Sound, Faulty}

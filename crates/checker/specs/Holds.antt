@@ -1,7 +1,7 @@
 -- A row of facts in ascending order, in which a fact is looked up.
 -- Assumes nothing.
 use mathlib.Core.List.{List}
-use Prim.Native.Nat.{ℕ, suc, _+_, _*_, _≤_, _<_}
+use Prim.Native.Nat.{ℕ, suc, _*_, _≤_, _<_}
 use lib.ListN.{length}
 use lib.Dec.{T}
 use Rattle.columns.specs.Lines.{itemsFrom}

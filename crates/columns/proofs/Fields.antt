@@ -2,16 +2,16 @@
 -- Assumes nothing.
 use mathlib.Core.Path.{_≡_, refl, sym, ap, _∙_}
 use mathlib.Core.Bool.{Bool, true, false, cond, _&&_}
-use mathlib.Core.List.{List, [], _∷_, _++_}
+use mathlib.Core.List.{List, _++_}
 use Prim.Native.Nat.{ℕ, suc, _+_, _*_, _/_, _%_, _≤_, _<_}
 use native.Mathlib.Omega.{arith}
 use native.Mathlib.Nat.{add-zero}
 use native.Mathlib.Numerals.{add-five, towards-suc}
 use lib.ListN.{length, getD, drop}
 use lib.Seq.{drop-cons, getD-drop}
-use lib.Dec.{T, eqb}
+use lib.Dec.{eqb}
 use borrow.Author.Tests.{eqb-true, eq-eqb}
-use Rattle.columns.specs.Fields.{column, field, joined, numberAt, hasField, isField}
+use Rattle.columns.specs.Fields.{column, field, numberAt, hasField, isField}
 
 -- a test of two parts that holds
 pub both : (a b : Bool) → a && b ≡ true → (a ≡ true) × (b ≡ true)
@@ -23,7 +23,7 @@ column-case n true e = rw (eqb-true n 0 e)
 column-case n false e = omega arith
 
 -- a column says its digit
-column-digit : (n : ℕ) → column n % 16 ≡ n % 10
+pub column-digit : (n : ℕ) → column n % 16 ≡ n % 10
 unfolding column
 column-digit n = column-case n (eqb n 0) refl
 
@@ -50,14 +50,14 @@ unfolding digits
 digits-below n = omega arith
 
 -- the five bytes that make up a field
-record Bytes (s : List ℕ) (at n : ℕ) : Type 0 where
-  b₀ : getD s at 0 ≡ column (n / 10 / 10 / 10 / 10)
-  b₁ : getD s (at + 1) 0 ≡ column (n / 10 / 10 / 10)
-  b₂ : getD s (at + 2) 0 ≡ column (n / 10 / 10)
-  b₃ : getD s (at + 3) 0 ≡ column (n / 10)
-  b₄ : getD s (at + 4) 0 ≡ 48 + n % 10
+pub record Bytes (s : List ℕ) (at n : ℕ) : Type 0 where
+  pub b₀ : getD s at 0 ≡ column (n / 10 / 10 / 10 / 10)
+  pub b₁ : getD s (at + 1) 0 ≡ column (n / 10 / 10 / 10)
+  pub b₂ : getD s (at + 2) 0 ≡ column (n / 10 / 10)
+  pub b₃ : getD s (at + 3) 0 ≡ column (n / 10)
+  pub b₄ : getD s (at + 4) 0 ≡ 48 + n % 10
 
-bytes-of : (s : List ℕ) (at n : ℕ) → hasField s at n ≡ true → Bytes s at n
+pub bytes-of : (s : List ℕ) (at n : ℕ) → hasField s at n ≡ true → Bytes s at n
 unfolding hasField
 bytes-of s at n e =
     let x₄ = both _ (eqb (getD s (at + 4) 0) (48 + n % 10)) e in
@@ -66,7 +66,7 @@ bytes-of s at n e =
     let x₁ = both (eqb (getD s at 0) (column (n / 10 / 10 / 10 / 10))) (eqb (getD s (at + 1) 0) (column (n / 10 / 10 / 10))) (x₂ .0) in
     record { b₀ = eqb-true _ _ (x₁ .0); b₁ = eqb-true _ _ (x₁ .1); b₂ = eqb-true _ _ (x₂ .1); b₃ = eqb-true _ _ (x₃ .1); b₄ = eqb-true _ _ (x₄ .1) }
 
-has-field : (s : List ℕ) (at n : ℕ) → Bytes s at n → hasField s at n ≡ true
+pub has-field : (s : List ℕ) (at n : ℕ) → Bytes s at n → hasField s at n ≡ true
 unfolding hasField
 has-field s at n b = rw (eq-eqb _ _ (b .b₀), eq-eqb _ _ (b .b₁), eq-eqb _ _ (b .b₂), eq-eqb _ _ (b .b₃), eq-eqb _ _ (b .b₄))
 

@@ -1,14 +1,14 @@
 -- Laws of lines: their length; a line that is written is read back; what reads as a line is the line of its numbers.
 -- Assumes nothing.
 use mathlib.Core.Path.{_≡_, refl, sym, ap, _∙_}
-use mathlib.Core.Bool.{Bool, true, false, _&&_}
+use mathlib.Core.Bool.{true, _&&_}
 use mathlib.Core.List.{List, [], _∷_, _++_, append-assoc, append-nil}
 use Prim.Native.Nat.{ℕ, zero, suc, _+_, _-_, _*_, _≤_, _<_}
 use native.Mathlib.Omega.{arith}
 use native.Mathlib.Nat.{add-zero}
 use native.Mathlib.Numerals.{add-one}
 use lib.ListN.{length, getD, drop, take, length-append}
-use lib.Seq.{drop-drop, drop-cons, drop-at, take-suc, getD-drop}
+use lib.Seq.{drop-drop, drop-cons, drop-at, getD-drop}
 use lib.Dec.{eqb}
 use borrow.Author.Tests.{eqb-true, eq-eqb}
 use Rattle.columns.specs.Fields.{field, numberAt, isField}

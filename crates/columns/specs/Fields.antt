@@ -31,3 +31,7 @@ hasField s at n =
 -- the five bytes from a place on are a field: that of the number that they say
 unfoldable pub isField : List ℕ → ℕ → Bool
 isField s at = hasField s at (numberAt s at)
+
+-- the number that a field has, or else 100,000, which no field has
+unfoldable pub fieldAt : List ℕ → ℕ → ℕ
+fieldAt s at = cond (isField s at) (numberAt s at) 100000

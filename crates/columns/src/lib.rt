@@ -3,13 +3,17 @@ ghost use mathlib.Core.Path.{_≡_};
 ghost use Prim.Native.Nat.{_+_, _*_, _≤_, _<_};
 ghost use lib.ListN.{length};
 ghost use lib.Seq.{sets};
-ghost use Rattle.columns.specs.Fields.{column, field, joined, numberAt, hasField, isField};
+ghost use Rattle.columns.specs.Fields.{column, field, joined, numberAt, fieldAt};
+ghost use Rattle.columns.specs.Columns.{nextColumn, lastColumn};
 ghost use Rattle.columns.specs.Lines.{line, width, laidOut, over};
 
 // The byte before a number's first digit, the digit 0, and the end of a line.
 const SPACE: u8 = 32;
 const ZERO: u8 = 48;
 const LINE_END: u8 = 10;
+
+// What stands for a number where five bytes are no field: no field has it.
+pub const NO_FIELD: u32 = 100000;
 
 // The byte in a column, where n is what the number has from that column leftwards.
 fn column_byte(n: u32) -> u8
@@ -34,27 +38,60 @@ pub fn number_at(s: &[u8], at: usize) -> u32
     join(join(join(join(join(0, s[at]), s[at + 1]), s[at + 2]), s[at + 3]), s[at + 4])
 }
 
-// The five bytes from a place on are the field of n.
-fn has_field(s: &[u8], at: usize, n: u32) -> bool
-    requires { ⌜ at + 5 ≤ length (now s) ⌝ }
-    ensures { λ r. ⌜ r ≡ hasField (now (s .entry)) at n ⌝ }
+// The number so far with one column more, if the byte is the one that writing gives there.
+fn next_column(n: u32, b: u8) -> u32
+    requires { ⌜ n < 10000 ⌝ }
+    ensures { λ r. ⌜ r ≡ nextColumn n b ⌝ }
 {
-    let tens = n / 10;
-    let hundreds = tens / 10;
-    let thousands = hundreds / 10;
-    (s[at] == column_byte(thousands / 10))
-        & (s[at + 1] == column_byte(thousands))
-        & (s[at + 2] == column_byte(hundreds))
-        & (s[at + 3] == column_byte(tens))
-        & (s[at + 4] == ZERO + (n % 10) as u8)
+    if b == SPACE {
+        return if n == 0 { 0 } else { NO_FIELD };
+    }
+    if b < ZERO {
+        return NO_FIELD;
+    }
+    if ZERO + 9 < b {
+        return NO_FIELD;
+    }
+    let more = n * 10 + (b - ZERO) as u32;
+    if more == 0 { NO_FIELD } else { more }
 }
 
-// The five bytes from a place on are a field.
-fn is_field(s: &[u8], at: usize) -> bool
-    requires { ⌜ at + 5 ≤ length (now s) ⌝ }
-    ensures { λ r. ⌜ r ≡ isField (now (s .entry)) at ⌝ }
+// The whole number, if the last byte is a digit.
+fn last_column(n: u32, b: u8) -> u32
+    requires { ⌜ n < 10000 ⌝ }
+    ensures { λ r. ⌜ r ≡ lastColumn n b ⌝ }
 {
-    has_field(s, at, number_at(s, at))
+    if b < ZERO {
+        return NO_FIELD;
+    }
+    if ZERO + 9 < b {
+        return NO_FIELD;
+    }
+    n * 10 + (b - ZERO) as u32
+}
+
+// The number of the field from a place on, or NO_FIELD where no field stands.
+pub fn field_at(s: &[u8], at: usize) -> u32
+    requires { ⌜ at + 5 ≤ length (now s) ⌝ }
+    ensures { λ r. ⌜ r ≡ fieldAt (now (s .entry)) at ⌝ }
+{
+    let a = next_column(0, s[at]);
+    if a == NO_FIELD {
+        return NO_FIELD;
+    }
+    let b = next_column(a, s[at + 1]);
+    if b == NO_FIELD {
+        return NO_FIELD;
+    }
+    let c = next_column(b, s[at + 2]);
+    if c == NO_FIELD {
+        return NO_FIELD;
+    }
+    let d = next_column(c, s[at + 3]);
+    if d == NO_FIELD {
+        return NO_FIELD;
+    }
+    last_column(d, s[at + 4])
 }
 
 // From a place on stand k fields and byte 10.
@@ -65,7 +102,7 @@ pub fn is_laid_out(k: usize, s: &[u8], at: usize) -> bool
     let mut i = 0;
     let mut here = at;
     while i < k {
-        if !is_field(s, here) {
+        if field_at(s, here) == NO_FIELD {
             return false;
         }
         here += 5;

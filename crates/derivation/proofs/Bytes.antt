@@ -6,13 +6,12 @@ use mathlib.Core.List.{List}
 use Prim.Native.Nat.{ℕ, _+_, _*_, _≤_, _<_}
 use native.Mathlib.Omega.{arith}
 use native.Mathlib.Nat.{zero-add}
-use lib.ListN.{length, getD, drop}
+use lib.ListN.{length, getD}
 use Rattle.columns.specs.Lines.{laidOut, numbersAt, Below, itemsFrom}
 use Rattle.columns.proofs.Lines.{line-length, line-written}
-use Rattle.columns.proofs.Lists.{flat-length, items-listed, lines-written, line-placed}
+use Rattle.columns.proofs.Lists.{flat-length, lines-written, line-placed}
 use Rattle.facts.proofs.Facts.{fact-eq}
 use Rattle.rules.specs.declared.Line.{Line}
-use Rattle.rules.specs.Derivations.{line}
 use Rattle.derivation.specs.Bytes.{numbers, lineBytes, derivationBytes, lineAt}
 
 pub derivation-length : (d : List Line) → length (derivationBytes d) ≡ 31 * length d

@@ -10,7 +10,6 @@ use borrow.Author.Tests.{ne-eqb, le-ltb, lt-leb}
 use Rattle.facts.specs.declared.Kind.{Kind}
 use Rattle.facts.specs.declared.Kind.the-variants.{NoTerm, Vocabulary, Name, Literal, BlankNode, Beyond}
 use Rattle.facts.specs.Terms.{kindOf, isNoTerm, isVocabulary, isName, isLiteral, isBlank}
-use Rattle.facts.specs.Facts.{isNode, isPredicate}
 
 -- ---- tests
 

@@ -1,28 +1,26 @@
 -- Lists of facts read one by one: what a scan that passes says of them, and when a scan passes.
 -- Assumes nothing.
-use mathlib.Core.Path.{_≡_, refl, sym, ap, _∙_}
+use mathlib.Core.Path.{_≡_, refl, sym, _∙_}
 use mathlib.Core.Logic.{_↔_, ⊎-elim}
-use mathlib.Core.Bool.{Bool, true, false, cond, not, _&&_, _||_}
-use mathlib.Core.List.{List, [], _∷_, _++_, List·Memᴰ, List·Memᴰ·not-nil, List·Memᴰ·cases-cons}
-use Prim.Native.Nat.{ℕ, zero, suc, _+_, _-_, _*_, _≤_, _<_}
+use mathlib.Core.Bool.{Bool, true, false, cond}
+use mathlib.Core.List.{List, [], _∷_, List·Memᴰ, List·Memᴰ·not-nil, List·Memᴰ·cases-cons}
+use Prim.Native.Nat.{ℕ, zero, suc, _+_, _-_, _<_}
 use native.Mathlib.Omega.{arith}
-use native.Mathlib.Nat.{add-zero, zero-add, add-comm, mul-zero, mul-suc}
-use lib.ListN.{length, getD, drop}
-use lib.Seq.{drop-at, drop-drop}
-use lib.Dec.{T, eqb}
+use native.Mathlib.Nat.{add-zero, zero-add}
+use lib.ListN.{length, getD}
+use lib.Dec.{T}
 use mir.Facts.{and-yes, yes-and}
 use borrow.Author.Tests.{ne-eqb}
 use Rattle.columns.specs.Lines.{itemsFrom}
 use Rattle.columns.proofs.Lists.{items-listed}
 use Rattle.facts.specs.declared.Fact.{Fact}
 use Rattle.facts.specs.declared.Refusal.{Refusal}
-use Rattle.facts.specs.declared.Refusal.the-variants.{Column, Term, Blank, Part, Order}
+use Rattle.facts.specs.declared.Refusal.the-variants.{Order}
 use Rattle.facts.specs.declared.Verdict.{Verdict}
 use Rattle.facts.specs.declared.Verdict.the-variants.{Sound, Faulty}
-use Rattle.facts.specs.Facts.{fact, wellFormed, faultOf, before}
-use Rattle.facts.proofs.Terms.{by-cases, T-of, of-T}
+use Rattle.facts.specs.Facts.{wellFormed, faultOf, before}
+use Rattle.facts.proofs.Terms.{T-of, of-T}
 use Rattle.facts.proofs.Facts.{fault-none}
-use Rattle.table.specs.declared.Scan.{Scan}
 use Rattle.table.specs.declared.Scan.the-variants.{Passes, Stops}
 use Rattle.table.specs.Scans.{above, earns, tried, firstEarned, onward, scan}
 use Rattle.table.specs.Judged.{orElse, judged}

@@ -1,18 +1,18 @@
 -- Laws of facts as rows and bytes, and of what a scan of them means.
 -- Assumes nothing.
 use mathlib.Core.Path.{_≡_, refl, sym, ap, _∙_}
-use mathlib.Core.Bool.{Bool, true, false, cond}
-use mathlib.Core.List.{List, [], _∷_, _++_, append-assoc, append-nil}
+use mathlib.Core.Bool.{true, false, cond}
+use mathlib.Core.List.{List}
 use Prim.Native.Nat.{ℕ, zero, suc, _+_, _-_, _*_, _/_, _%_, _≤_, _<_}
 use lib.Dec.{eqb, leb}
 use borrow.Author.Tests.{eq-eqb, ne-eqb, le-leb, lt-leb, eqb-true, leb-true}
 use Rattle.facts.proofs.Terms.{by-cases}
 use native.Mathlib.Omega.{arith}
-use native.Mathlib.Nat.{add-zero, zero-add, add-comm, mul-zero, mul-suc}
+use native.Mathlib.Nat.{zero-add}
 use native.Mathlib.Numerals.{add-one, towards-suc}
-use lib.ListN.{length, getD, take, drop, length-append}
+use lib.ListN.{length, take, drop}
 use lib.Seq.{drop-cons}
-use Rattle.columns.specs.Lines.{line, over, flat, itemsFrom}
+use Rattle.columns.specs.Lines.{over, flat, itemsFrom}
 use Rattle.columns.proofs.Fields.{both}
 use Rattle.columns.proofs.Lines.{line-length}
 use Rattle.columns.proofs.Lists.{flat-length, items-length}

@@ -1,21 +1,19 @@
 -- Laws of verdicts and scans.
 -- Assumes nothing.
-use mathlib.Core.Path.{_≡_, refl, sym, ap, _∙_}
+use mathlib.Core.Path.{_≡_, refl}
 use mathlib.Core.Bool.{Bool, true, false, cond, not, _||_}
-use mathlib.Core.List.{List, [], _∷_}
 use Prim.Native.Nat.{ℕ, zero, suc, _+_, _-_, _<_}
 use native.Mathlib.Omega.{arith}
 use native.Mathlib.Numerals.{add-one}
 use lib.Dec.{eqb}
-use borrow.Author.Tests.{eqb-false, eq-eqb}
+use borrow.Author.Tests.{eqb-false}
 use Rattle.facts.specs.declared.Fact.{Fact}
 use Rattle.facts.specs.declared.Refusal.{Refusal}
-use Rattle.facts.specs.declared.Refusal.the-variants.{Column, Term, Blank, Part, Order}
+use Rattle.facts.specs.declared.Refusal.the-variants.{Term, Blank, Part, Order}
 use Rattle.facts.specs.declared.Verdict.{Verdict}
 use Rattle.facts.specs.declared.Verdict.the-variants.{Sound, Faulty}
 use Rattle.facts.specs.Facts.{hasNoTerm, hasBlank, misplaced, faultOf, before}
 use Rattle.facts.proofs.Terms.{by-cases}
-use Rattle.table.specs.declared.Scan.{Scan}
 use Rattle.table.specs.declared.Scan.the-variants.{Passes, Stops}
 use Rattle.table.specs.Scans.{above, earns, tried, firstEarned, onward, scan}
 use Rattle.table.specs.Judged.{orElse, judged}

@@ -4,13 +4,12 @@ use mathlib.Core.Path.{_≡_, refl, sym, ap, _∙_}
 use mathlib.Core.Logic.{_↔_, _⊎_, inl, inr, ⊎-elim}
 use mathlib.Core.Bool.{Bool, true, false, cond}
 use mathlib.Core.List.{List, [], _∷_, _++_, List·Memᴰ, List·Memᴰ·head, List·Memᴰ·tail, List·Memᴰ·not-nil, List·Memᴰ·cases-cons}
-use Prim.Native.Nat.{ℕ, zero, suc, _+_, _-_, _*_, _/_, _%_, _≤_, _<_}
+use Prim.Native.Nat.{ℕ, zero, suc, _+_, _-_, _*_, _/_, _≤_, _<_}
 use native.Mathlib.Omega.{arith}
 use native.Mathlib.Nat.{add-zero, zero-add}
-use lib.ListN.{length, getD, drop, take, drop-of-length-le, take-append-drop, List·getD-append}
+use lib.ListN.{length, getD, drop, drop-of-length-le, take-append-drop, List·getD-append}
 use lib.Seq.{drop-drop}
 use lib.Dec.{T}
-use Rattle.columns.specs.Fields.{numberAt}
 use Rattle.columns.specs.Lines.{line, laidOut, numbersAt, Below, flat, itemsFrom}
 use Rattle.columns.proofs.Lists.{flat-at, items-listed, lines-written, line-placed}
 use Rattle.facts.specs.declared.Fact.{Fact}
@@ -25,8 +24,8 @@ use Rattle.table.specs.declared.Scan.{Scan}
 use Rattle.table.specs.declared.Scan.the-variants.{Passes, Stops}
 use Rattle.table.specs.Scans.{earns, tried, firstEarned, onward, scan}
 use Rattle.table.specs.Tables as tables
-use Rattle.table.specs.Tables.{terms, rowOf, lineOf, tableBytes, lineFact, rowFact, Table, accepted, refused, sized, meant, lineVerdict, tableScan, tableOf, rowVerdict, rowScan, tableOfRow, allFormed, ascending}
-use Rattle.table.proofs.Rows.{row-length, bytes-length, sized-fits, scan-table, loaded-all, loaded-accepted, passes-size, accepted-scan, accepted-size, row-scan, row-size, row-facts, row-part}
+use Rattle.table.specs.Tables.{terms, rowOf, tableBytes, lineFact, rowFact, accepted, refused, sized, meant, lineVerdict, tableScan, tableOf, rowVerdict, rowScan, tableOfRow, allFormed}
+use Rattle.table.proofs.Rows.{row-length, bytes-length, sized-fits, loaded-all, loaded-accepted, passes-size, accepted-scan, accepted-size, row-scan, row-size, row-facts, row-part}
 use Rattle.table.proofs.Lists.{passes-says, says-passes, formed-at}
 
 -- ---- lines of bytes

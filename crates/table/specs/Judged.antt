@@ -10,7 +10,8 @@ use Rattle.facts.specs.declared.Refusal.the-variants.{Order}
 use Rattle.facts.specs.declared.Verdict.{Verdict}
 use Rattle.facts.specs.declared.Verdict.the-variants.{Sound, Faulty}
 use Rattle.facts.specs.Facts.{faultOf, before}
-use Rattle.table.specs.Tables.{lineFact, rowFact}
+use Rattle.table.specs.declared.Judged.{Judged}
+use Rattle.table.specs.Tables.{lineFact, lineVerdict}
 
 -- a verdict, or else another
 unfoldable pub orElse : Verdict → Verdict → Verdict
@@ -26,7 +27,7 @@ pub record NextLine (b : List ℕ) (i : ℕ) (last : Fact) : Type 0 where
   pub there : 16 * i + 16 ≤ length b
   pub before : 0 < i → last ≡ lineFact b (i - 1)
 
--- the same of a row
-pub record NextFact (row : List ℕ) (i : ℕ) (last : Fact) : Type 0 where
-  pub there : 3 * i + 3 ≤ length row
-  pub before : 0 < i → last ≡ rowFact row (i - 1)
+-- the line's verdict, and its fact where it earns nothing
+pub record LineJudged (b : List ℕ) (i : ℕ) (r : Judged) : Type 0 where
+  pub verdict : r .verdict ≡ lineVerdict b i
+  pub fact : r .verdict ≡ Sound → r .fact ≡ lineFact b i

@@ -1,7 +1,7 @@
 -- Which refusal a fact or a line earns, and the first line that earns one (document 01, the order of refusals: "lines
 -- downward, each tried for 2, 3, 4, 5, 6 in that order over its whole width").
 -- Assumes nothing.
-use mathlib.Core.Bool.{Bool, true, false, cond, not, _||_}
+use mathlib.Core.Bool.{Bool, false, cond, not, _||_}
 use mathlib.Core.List.{List, [], _∷_}
 use Prim.Native.Nat.{ℕ, zero, suc, _-_}
 use lib.Dec.{eqb}

@@ -1,9 +1,8 @@
 -- The meaning of a table: its bytes, its row of numbers, and which of them are accepted (document 01, "Table layout" and the
 -- table of numbers).
 -- Assumes nothing.
-use mathlib.Core.Path.{_≡_}
 use mathlib.Core.Bool.{Bool, true, cond, _&&_}
-use mathlib.Core.List.{List, [], _∷_, _++_}
+use mathlib.Core.List.{List, [], _∷_}
 use Prim.Native.Nat.{ℕ, zero, suc, _+_, _*_, _/_, _%_, _≤_}
 use lib.ListN.{length, getD}
 use lib.Dec.{T, leb, eqb}

@@ -1,4 +1,5 @@
 // Tables as bytes and as rows of numbers (document 01, "Table layout").
+use columns::NO_FIELD;
 use facts::Answer;
 use facts::Fact;
 use facts::Refusal;
@@ -9,12 +10,13 @@ ghost use Prim.Native.Nat.{_+_, _-_, _*_, _≤_, _<_};
 ghost use lib.ListN.{length, take};
 ghost use lib.Seq.{sets};
 ghost use Rattle.columns.specs.Lines.{itemsFrom, over};
-ghost use Rattle.table.specs.Tables.{terms, rowOf, tableBytes, lineFact, rowFact, lineVerdict, tableOf, tableOfRow, settled, filled, scanOf, loaded};
-ghost use Rattle.table.specs.Judged.{judged, NextLine, NextFact};
+ghost use Rattle.table.specs.Tables.{terms, rowOf, tableBytes, rowFact, tableOf, tableOfRow, settled, filled, scanOf, loaded};
+ghost use Rattle.table.specs.Judged.{judged, NextLine, LineJudged};
 
 // The fields, bytes and numbers of a fact, and the most of each in a table.
 const FIELDS: usize = 3;
 const LINE_BYTES: usize = 16;
+const LINE_END: u8 = 10;
 const TABLE_BYTES: usize = 16384;
 const ROW_NUMBERS: usize = 3072;
 
@@ -44,32 +46,35 @@ fn judge(first: bool, last: Fact, f: Fact) -> Verdict
     }
 }
 
-// The fact on a line, by what its fields say.
-fn line_fact(bytes: &[u8], i: usize) -> Fact
-    requires { ⌜ 16 * i + 16 ≤ length (now bytes) ⌝ }
-    ensures { λ r. ⌜ r ≡ lineFact (now (bytes .entry)) i ⌝ }
+// What a line comes to: the first of 2 to 6 that it earns, and its fact.
+pub struct Judged {
+    pub verdict: Verdict,
+    pub fact: Fact,
+}
+
+// Reads and judges a line, with last the fact on the line before, if there is one.
+fn judge_line(bytes: &[u8], i: usize, last: Fact) -> Judged
+    requires { ⌜ NextLine (now bytes) i last ⌝ }
+    ensures { λ r. ⌜ LineJudged (now (bytes .entry)) i r ⌝ }
 {
     let at = LINE_BYTES * i;
-    let subject = columns::number_at(bytes, at);
-    let predicate = columns::number_at(bytes, at + 5);
-    let object = columns::number_at(bytes, at + 10);
-    Fact {
+    let subject = columns::field_at(bytes, at);
+    let predicate = columns::field_at(bytes, at + 5);
+    let object = columns::field_at(bytes, at + 10);
+    let f = Fact {
         subject: subject,
         predicate: predicate,
         object: object,
+    };
+    let torn = (subject == NO_FIELD) | (predicate == NO_FIELD) | (object == NO_FIELD);
+    if torn | (bytes[at + 15] != LINE_END) {
+        return Judged {
+            verdict: Verdict::Faulty(Refusal::Column),
+            fact: f,
+        };
     }
-}
-
-// The first of 2 to 6 that a line earns, with last the fact on the line before, if there is one.
-fn line_verdict(bytes: &[u8], i: usize, last: Fact) -> Verdict
-    requires { ⌜ NextLine (now bytes) i last ⌝ }
-    ensures { λ r. ⌜ r ≡ lineVerdict (now (bytes .entry)) i ⌝ }
-{
-    if !columns::is_laid_out(FIELDS, bytes, LINE_BYTES * i) {
-        return Verdict::Faulty(Refusal::Column);
-    }
-    let f = line_fact(bytes, i);
-    judge(i == 0, last, f)
+    let v = judge(i == 0, last, f);
+    Judged { verdict: v, fact: f }
 }
 
 // Puts a fact's three numbers at a place of a row.
@@ -104,12 +109,14 @@ pub fn load(bytes: &[u8], row: &mut [u32]) -> Scan
     };
     let mut i = 0;
     while i < n {
-        match line_verdict(bytes, i, last) {
+        let line = judge_line(bytes, i, last);
+        let v = line.verdict;
+        match v {
             Verdict::Faulty(r) => {
                 return Scan::Stops(r, (i + 1) as u32);
             }
             Verdict::Sound => {
-                last = line_fact(bytes, i);
+                last = line.fact;
                 put_fact(last, row, i);
                 i += 1;
             }

@@ -1,40 +1,31 @@
 -- `checker::check_derivation` meets its contract: the size is tried before the lines.
 -- Assumes nothing.
-use mathlib.Core.Path.{_≡_, refl, sym, ap, _∙_}
 use native.Mathlib.Omega.{arith}
 use lib.ListN.{length}
 use denote.Ref.{now}
-use borrow.Author.Tests.{eq-eqb, lt-ltb, le-ltb}
+use borrow.Author.Tests.{lt-ltb, le-ltb}
+use borrow.Author.Needs.{needs}
 use Rattle.table.proofs.Rows.{sized-torn, sized-large, sized-fits}
 use Rattle.checker.specs.Check.{derivationAnswer}
 use Rattle.checker.proofs.Sizes.{nonempty}
-use borrow.Author.Needs.{needs}
 use Rattle.checker.proofs.check_derivation.Statement.{statement}
 use Rattle.checker.proofs.check_derivation.Tie as tie
-use Rattle.checker.proofs.check_derivation.Reads as reads
-use Rattle.checker.proofs.check_derivation.Lts as lts
-use Rattle.checker.proofs.check_lines.Reads as check-lines-reads
 
--- src/lib.rt:187:9
 returns : tie.Need-returns
 unfolding derivationAnswer
 returns c = let x = now (c .before .before .before .args .derivation) in rw (le-ltb 0 (length x) (omega arith))
 
--- src/lib.rt:190:9
 returns-2 : tie.Need-returns-2
 unfolding derivationAnswer
 returns-2 c = let x = now (c .before .before .before .before .args .derivation) in rw (lt-ltb 0 (length x) (nonempty (length x) (c .before .if1 .left)), sized-torn 31 63457 (length x) (c .if2 .taken))
 
--- src/lib.rt:193:9
 returns-3 : tie.Need-returns-3
 unfolding derivationAnswer
 returns-3 c = let x = now (c .before .before .before .before .before .args .derivation) in rw (lt-ltb 0 (length x) (nonempty (length x) (c .before .before .if1 .left)), sized-large 31 63457 (length x) (c .if3 .taken))
 
--- src/lib.rt:195:5
 check-lines-requires : tie.Need-check-lines-requires
 check-lines-requires c κs = search needs
 
--- src/lib.rt:181:1
 returns-4 : tie.Need-returns-4
 unfolding derivationAnswer
 returns-4 c = let x = now (c .before .before .before .before .before .before .args .derivation) in rw (lt-ltb 0 (length x) (nonempty (length x) (c .before .before .before .if1 .left)), sized-fits 31 63457 (length x) (c .before .before .if2 .left) (c .before .if3 .left)) (c .check-lines .ensures)

@@ -1,22 +1,18 @@
 -- `checker::count_table_lines` meets its contract. The loop's invariant: the table lines among those passed are counted.
 -- Assumes nothing.
-use Prim.Native.Nat.{ℕ, suc, _+_, _-_, _*_, _/_, _≤_, _<_}
-use mathlib.Core.Path.{_≡_, refl, sym, ap, _∙_}
+use mathlib.Core.Path.{_≡_, refl, ap, _∙_}
+use mathlib.Core.Logic.{⊎-elim}
+use Prim.Native.Nat.{_+_, _-_, _≤_}
 use native.Mathlib.Omega.{arith}
 use native.Mathlib.Nat.{add-zero}
-use mathlib.Core.Logic.{⊎-elim}
 use denote.Ref.{now}
 use borrow.Author.Tests.{eq-eqb, ne-eqb}
 use Rattle.columns.specs.Lines.{itemsFrom}
 use Rattle.rules.specs.Derivations.{tableLines}
-use Rattle.derivation.specs.Bytes.{lineAt}
 use Rattle.checker.specs.Check.{linesOf}
 use Rattle.checker.proofs.Lines.{count-more}
 use Rattle.checker.proofs.count_table_lines.Statement.{statement}
 use Rattle.checker.proofs.count_table_lines.Tie as tie
-use Rattle.checker.proofs.count_table_lines.Reads as reads
-use Rattle.checker.proofs.count_table_lines.Lts as lts
-use Rattle.derivation.proofs.line_at.Reads as line-at-reads
 
 abbrev Inv-loop : tie.InvT-loop
 Inv-loop derivation n count₀ i₀ count i = (i ≤ n) × (count ≤ i) × (count ≡ tableLines (linesOf derivation i))
@@ -24,28 +20,22 @@ Inv-loop derivation n count₀ i₀ count i = (i ≤ n) × (count ≤ i) × (cou
 abbrev μ-loop : tie.MeasureT-loop
 μ-loop derivation n count₀ i₀ count i = n - i
 
--- src/lib.rt:121:5
 loop-holds : tie.Need-loop-holds Inv-loop μ-loop
 unfolding tableLines itemsFrom
 loop-holds c = (omega arith, omega arith, refl)
 
--- src/lib.rt:122:13
 line-at-requires : tie.Need-line-at-requires Inv-loop μ-loop
 line-at-requires c κs = omega arith
 
--- src/lib.rt:124:13
 add-count : tie.Need-add-count Inv-loop μ-loop
 add-count c = omega arith
 
--- src/lib.rt:126:9
 add-i : tie.Need-add-i Inv-loop μ-loop
 add-i c = omega arith
 
--- src/lib.rt:121:5
 loop-less : tie.Need-loop-less Inv-loop μ-loop
 loop-less c = omega arith
 
--- src/lib.rt:121:5
 loop-again : tie.Need-loop-again Inv-loop μ-loop
 loop-again c = 
     let l = c .before .before .before .before .loop in
@@ -56,7 +46,6 @@ loop-again c =
     (λ w. (omega arith, omega arith, rw (count-more x (l .i), ← e, ne-eqb _ _ (w .0 .left), add-zero) (w .1 ∙ l .inv .2)))
     (c .if1 .came)
 
--- src/lib.rt:115:1
 returns : tie.Need-returns Inv-loop μ-loop
 returns c = let e : c .before .loop .i ≡ c .before .before .before .args .n = omega arith in c .before .loop .inv .2 ∙ rw e
 

@@ -1,72 +1,49 @@
-use denote.Ref.{now}
-use mathlib.Core.Path.{_≡_, refl, sym, ap, _∙_}
-use native.Mathlib.Omega.{arith}
-use Rattle.rules.specs.Steps.{stepFrom}
-use Rattle.rules.specs.Derivations.{factOn}
-use Rattle.facts.specs.declared.Fact.{Fact}
-use mathlib.Core.Option.{Option, none, some}
-use Rattle.checker.specs.Check.{linesOf}
-use Rattle.checker.proofs.Lines.{factOn-zero, fact-there, fact-missing}
 -- `checker::is_rule_line` meets its contract: a premise that is not among the lines before has no fact.
 -- Assumes nothing.
-use borrow.Author.Tests.{eq-eqb, ne-eqb}
+use denote.Ref.{now}
 use borrow.Author.Needs.{needs}
+use Rattle.rules.specs.Steps.{stepFrom}
+use Rattle.checker.proofs.Lines.{factOn-zero, fact-there, fact-missing}
 use Rattle.checker.proofs.is_rule_line.Statement.{statement}
 use Rattle.checker.proofs.is_rule_line.Tie as tie
-use Rattle.checker.proofs.is_rule_line.Reads as reads
-use Rattle.checker.proofs.is_rule_line.Lts as lts
-use Rattle.derivation.proofs.fact_at.Reads as fact-at-reads
-use Rattle.rules.proofs.step.Reads as step-reads
 
--- src/lib.rt:75:17
 cast-first : tie.Need-cast-first
 cast-first c = search needs
 
--- src/lib.rt:76:18
 cast-second : tie.Need-cast-second
 cast-second c = search needs
 
--- src/lib.rt:78:9
 returns : tie.Need-returns
 unfolding stepFrom
 returns c = let s = c .before .before .before .before in let x = now (s .args .derivation) in rw (c .if1 .taken, factOn-zero)
 
--- src/lib.rt:81:9
 returns-2 : tie.Need-returns-2
 unfolding stepFrom
 returns-2 c = let s = c .before .before .before .before .before in let x = now (s .args .derivation) in rw (fact-missing x (s .args .i) (s .args .l .first) (c .if2 .taken))
 
--- src/lib.rt:84:9
 returns-3 : tie.Need-returns-3
 unfolding stepFrom
 returns-3 c = let s = c .before .before .before .before .before .before in let x = now (s .args .derivation) in rw (fact-there x (s .args .i) (s .args .l .first) (c .before .before .if1 .left) (c .before .if2 .left), c .if3 .taken, factOn-zero)
 
--- src/lib.rt:87:9
 returns-4 : tie.Need-returns-4
 unfolding stepFrom
 returns-4 c = let s = c .before .before .before .before .before .before .before in let x = now (s .args .derivation) in rw (fact-there x (s .args .i) (s .args .l .first) (c .before .before .before .if1 .left) (c .before .before .if2 .left), fact-missing x (s .args .i) (s .args .l .second) (c .if4 .taken))
 
--- src/lib.rt:89:45
 sub-fact-at : tie.Need-sub-fact-at
 sub-fact-at c = search needs
 
--- src/lib.rt:89:9
 fact-at-requires : tie.Need-fact-at-requires
 fact-at-requires c κs = search needs
 
--- src/lib.rt:90:45
 sub-fact-at-2 : tie.Need-sub-fact-at-2
 sub-fact-at-2 c = search needs
 
--- src/lib.rt:90:9
 fact-at-requires-2 : tie.Need-fact-at-requires-2
 fact-at-requires-2 c κs = search needs
 
--- src/lib.rt:91:5
 step-requires : tie.Need-step-requires
 step-requires c κs = search needs
 
--- src/lib.rt:71:1
 returns-5 : tie.Need-returns-5
 unfolding stepFrom
 returns-5 c = let s = c .before .before .before .before .before .before .before .before .before .before in let x = now (s .args .derivation) in rw (fact-there x (s .args .i) (s .args .l .first) (c .before .before .before .before .before .before .if1 .left) (c .before .before .before .before .before .if2 .left), fact-there x (s .args .i) (s .args .l .second) (c .before .before .before .before .if3 .left) (c .before .before .before .if4 .left), ← c .before .before .fact-at .ensures, ← c .before .fact-at2 .ensures) (c .step .ensures)

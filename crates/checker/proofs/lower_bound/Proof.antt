@@ -1,9 +1,9 @@
 -- `checker::lower_bound` meets its contract. The loop's invariant: facts below `lo` come before f, and those from `hi` on do not.
 -- Assumes nothing.
-use Prim.Native.Nat.{ℕ, suc, _+_, _-_, _*_, _/_, _≤_, _<_}
-use mathlib.Core.Path.{_≡_, refl, sym, ap, _∙_}
-use native.Mathlib.Omega.{arith}
+use mathlib.Core.Path.{_≡_, sym, _∙_}
 use mathlib.Core.Bool.{true, false}
+use Prim.Native.Nat.{ℕ, _+_, _-_, _/_, _≤_, _<_}
+use native.Mathlib.Omega.{arith}
 use native.Mathlib.Numerals.{add-one}
 use lib.Dec.{T}
 use denote.Ref.{now}
@@ -14,10 +14,6 @@ use Rattle.table.specs.Tables.{rowFact}
 use Rattle.checker.proofs.Lookup.{below-cut, above-cut}
 use Rattle.checker.proofs.lower_bound.Statement.{statement}
 use Rattle.checker.proofs.lower_bound.Tie as tie
-use Rattle.checker.proofs.lower_bound.Reads as reads
-use Rattle.checker.proofs.lower_bound.Lts as lts
-use Rattle.facts.proofs.comes_before.Reads as comes-before-reads
-use Rattle.table.proofs.row_fact.Reads as row-fact-reads
 
 abbrev Inv-loop : tie.InvT-loop
 Inv-loop row n f lo₀ hi₀ lo hi = 
@@ -26,35 +22,27 @@ Inv-loop row n f lo₀ hi₀ lo hi =
 abbrev μ-loop : tie.MeasureT-loop
 μ-loop row n f lo₀ hi₀ lo hi = hi - lo
 
--- src/lib.rt:32:5
 loop-holds : tie.Need-loop-holds Inv-loop μ-loop
 loop-holds c = (omega arith, omega arith, (λ i h. absurd (omega arith)), (λ i h l. absurd (omega arith)))
 
--- src/lib.rt:33:25
 sub-mid : tie.Need-sub-mid Inv-loop μ-loop
 sub-mid c = omega arith
 
--- src/lib.rt:33:19
 add-mid : tie.Need-add-mid Inv-loop μ-loop
 add-mid c = omega arith
 
--- src/lib.rt:34:32
 row-fact-requires : tie.Need-row-fact-requires Inv-loop μ-loop
 row-fact-requires c κs = omega arith
 
--- src/lib.rt:34:12
 comes-before-requires : tie.Need-comes-before-requires Inv-loop μ-loop
 comes-before-requires c κs = search needs
 
--- src/lib.rt:35:18
 add-lo : tie.Need-add-lo Inv-loop μ-loop
 add-lo c = omega arith
 
--- src/lib.rt:32:5
 loop-less : tie.Need-loop-less Inv-loop μ-loop
 loop-less c = omega arith
 
--- src/lib.rt:32:5
 loop-again : tie.Need-loop-again Inv-loop μ-loop
 loop-again c = 
     let s = c .before .before .before .before .before .before in
@@ -64,11 +52,9 @@ loop-again c =
     let e : before (rowFact row m) (s .args .f) ≡ true = rw (← c .before .before .row-fact .ensures) (sym (c .before .comes-before .ensures) ∙ c .if1 .taken) in
     (omega arith, omega arith, rw add-one (below-cut row (s .args .n) (s .pre) (s .args .f) m (omega arith) (T-of (before (rowFact row m) (s .args .f)) e)), l .inv .3)
 
--- src/lib.rt:32:5
 loop-less-2 : tie.Need-loop-less-2 Inv-loop μ-loop
 loop-less-2 c = omega arith
 
--- src/lib.rt:32:5
 loop-again-2 : tie.Need-loop-again-2 Inv-loop μ-loop
 loop-again-2 c = 
     let s = c .before .before .before .before .before .before in
@@ -78,7 +64,6 @@ loop-again-2 c =
     let e : before (rowFact row m) (s .args .f) ≡ false = rw (← c .before .before .row-fact .ensures) (sym (c .before .comes-before .ensures) ∙ c .if1 .left) in
     (omega arith, omega arith, l .inv .2, above-cut row (s .args .n) (s .pre) (s .args .f) m (λ t. rw e at t))
 
--- src/lib.rt:26:1
 returns : tie.Need-returns Inv-loop μ-loop
 returns c = let l = c .before .loop in record { within = omega arith; below = l .inv .2; above = λ i h. l .inv .3 i (omega arith) }
 

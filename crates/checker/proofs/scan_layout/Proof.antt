@@ -1,21 +1,18 @@
 -- `checker::scan_layout` meets its contract. The loop's invariant: the scan goes on from the line reached.
 -- Assumes nothing.
-use Prim.Native.Nat.{ℕ, suc, _+_, _-_, _*_, _/_, _≤_, _<_}
-use mathlib.Core.Path.{_≡_, refl, sym, ap, _∙_}
-use native.Mathlib.Omega.{arith}
+use mathlib.Core.Path.{_≡_, sym, _∙_}
 use mathlib.Core.Bool.{true, false}
+use Prim.Native.Nat.{_-_, _*_, _≤_}
+use native.Mathlib.Omega.{arith}
 use native.Mathlib.Nat.{sub-zero}
-use borrow.Author.Tests.{not-true, not-false}
 use denote.Ref.{now}
+use borrow.Author.Tests.{not-true, not-false}
 use Rattle.columns.specs.Lines.{laidOut}
 use Rattle.table.specs.Scans.{scan}
 use Rattle.table.proofs.Scans.{scan-on, scan-stop, scan-end}
 use Rattle.checker.specs.Check.{formVerdict}
 use Rattle.checker.proofs.scan_layout.Statement.{statement}
 use Rattle.checker.proofs.scan_layout.Tie as tie
-use Rattle.checker.proofs.scan_layout.Reads as reads
-use Rattle.checker.proofs.scan_layout.Lts as lts
-use Rattle.columns.proofs.is_laid_out.Reads as is-laid-out-reads
 
 abbrev Inv-loop : tie.InvT-loop
 Inv-loop derivation n i₀ i = (i ≤ n) × (scan (formVerdict derivation) 0 n ≡ scan (formVerdict derivation) i (n - i))
@@ -23,27 +20,21 @@ Inv-loop derivation n i₀ i = (i ≤ n) × (scan (formVerdict derivation) 0 n �
 abbrev μ-loop : tie.MeasureT-loop
 μ-loop derivation n i₀ i = n - i
 
--- src/lib.rt:90:5
 loop-holds : tie.Need-loop-holds Inv-loop μ-loop
 loop-holds c = (omega arith, rw sub-zero)
 
--- src/lib.rt:91:59
 mul-is-laid-out : tie.Need-mul-is-laid-out Inv-loop μ-loop
 mul-is-laid-out c = omega arith
 
--- src/lib.rt:91:13
 is-laid-out-requires : tie.Need-is-laid-out-requires Inv-loop μ-loop
 is-laid-out-requires c κs = omega arith
 
--- src/lib.rt:92:48
 add-t8 : tie.Need-add-t8 Inv-loop μ-loop
 add-t8 c = omega arith
 
--- src/lib.rt:92:47
 cast-t9 : tie.Need-cast-t9 Inv-loop μ-loop
 cast-t9 c = omega arith
 
--- src/lib.rt:92:13
 returns : tie.Need-returns Inv-loop μ-loop
 unfolding formVerdict
 returns c = 
@@ -52,15 +43,12 @@ returns c =
     let e : laidOut 6 x (31 * l .i) ≡ false = sym (c .before .is-laid-out .ensures) ∙ not-true _ (c .if1 .taken) in
     sym (l .inv .1 ∙ scan-stop (formVerdict x) (c .before .before .before .before .before .args .n) (l .i) (omega arith) (rw e))
 
--- src/lib.rt:94:9
 add-i : tie.Need-add-i Inv-loop μ-loop
 add-i c = omega arith
 
--- src/lib.rt:90:5
 loop-less : tie.Need-loop-less Inv-loop μ-loop
 loop-less c = omega arith
 
--- src/lib.rt:90:5
 loop-again : tie.Need-loop-again Inv-loop μ-loop
 unfolding formVerdict
 loop-again c = 
@@ -69,11 +57,9 @@ loop-again c =
     let e : laidOut 6 x (31 * l .i) ≡ true = sym (c .before .is-laid-out .ensures) ∙ not-false _ (c .if1 .left) in
     (omega arith, l .inv .1 ∙ scan-on (formVerdict x) (c .before .before .before .before .before .args .n) (l .i) (omega arith) (rw e))
 
--- src/lib.rt:96:18
 cast-t10 : tie.Need-cast-t10 Inv-loop μ-loop
 cast-t10 c = omega arith
 
--- src/lib.rt:85:1
 returns-2 : tie.Need-returns-2 Inv-loop μ-loop
 returns-2 c = let l = c .before .loop in sym (l .inv .1 ∙ scan-end _ _ (l .i) (omega arith))
 

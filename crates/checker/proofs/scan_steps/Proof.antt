@@ -1,12 +1,12 @@
 -- `checker::scan_steps` meets its contract. The loop's invariant: the scan goes on from the line reached.
 -- Assumes nothing.
-use Prim.Native.Nat.{ℕ, suc, _+_, _-_, _*_, _/_, _≤_, _<_}
-use mathlib.Core.Path.{_≡_, refl, sym, ap, _∙_}
-use native.Mathlib.Omega.{arith}
+use mathlib.Core.Path.{_≡_, sym, _∙_}
 use mathlib.Core.Bool.{true, false}
+use Prim.Native.Nat.{_-_, _≤_}
+use native.Mathlib.Omega.{arith}
 use native.Mathlib.Nat.{sub-zero}
-use borrow.Author.Tests.{not-true, not-false}
 use denote.Ref.{now}
+use borrow.Author.Tests.{not-true, not-false}
 use Rattle.table.specs.Scans.{scan}
 use Rattle.table.proofs.Scans.{scan-on, scan-stop, scan-end}
 use Rattle.rules.specs.Steps.{justified}
@@ -15,9 +15,6 @@ use Rattle.checker.specs.Check.{linesOf, stepVerdict}
 use Rattle.checker.specs.Holds.{rowFacts}
 use Rattle.checker.proofs.scan_steps.Statement.{statement}
 use Rattle.checker.proofs.scan_steps.Tie as tie
-use Rattle.checker.proofs.scan_steps.Reads as reads
-use Rattle.checker.proofs.scan_steps.Lts as lts
-use Rattle.checker.proofs.is_justified.Reads as is-justified-reads
 
 abbrev Inv-loop : tie.InvT-loop
 Inv-loop row n derivation lines i₀ i = 
@@ -26,23 +23,18 @@ Inv-loop row n derivation lines i₀ i =
 abbrev μ-loop : tie.MeasureT-loop
 μ-loop row n derivation lines i₀ i = lines - i
 
--- src/lib.rt:128:5
 loop-holds : tie.Need-loop-holds Inv-loop μ-loop
 loop-holds c = (omega arith, rw sub-zero)
 
--- src/lib.rt:129:13
 is-justified-requires : tie.Need-is-justified-requires Inv-loop μ-loop
 is-justified-requires c κs = (c .before .before .before .before .pre .0, omega arith)
 
--- src/lib.rt:130:48
 add-t9 : tie.Need-add-t9 Inv-loop μ-loop
 add-t9 c = omega arith
 
--- src/lib.rt:130:47
 cast-t10 : tie.Need-cast-t10 Inv-loop μ-loop
 cast-t10 c = omega arith
 
--- src/lib.rt:130:13
 returns : tie.Need-returns Inv-loop μ-loop
 unfolding stepVerdict
 returns c = 
@@ -53,15 +45,12 @@ returns c =
     let e : justified facts (linesOf x (l .i)) (lineAt x (l .i)) ≡ false = sym (c .before .is-justified .ensures) ∙ not-true _ (c .if1 .taken) in
     sym (l .inv .1 ∙ scan-stop (stepVerdict facts x) (s .args .lines) (l .i) (omega arith) (rw e))
 
--- src/lib.rt:132:9
 add-i : tie.Need-add-i Inv-loop μ-loop
 add-i c = omega arith
 
--- src/lib.rt:128:5
 loop-less : tie.Need-loop-less Inv-loop μ-loop
 loop-less c = omega arith
 
--- src/lib.rt:128:5
 loop-again : tie.Need-loop-again Inv-loop μ-loop
 unfolding stepVerdict
 loop-again c = 
@@ -72,11 +61,9 @@ loop-again c =
     let e : justified facts (linesOf x (l .i)) (lineAt x (l .i)) ≡ true = sym (c .before .is-justified .ensures) ∙ not-false _ (c .if1 .left) in
     (omega arith, l .inv .1 ∙ scan-on (stepVerdict facts x) (s .args .lines) (l .i) (omega arith) (rw e))
 
--- src/lib.rt:134:18
 cast-t11 : tie.Need-cast-t11 Inv-loop μ-loop
 cast-t11 c = omega arith
 
--- src/lib.rt:123:1
 returns-2 : tie.Need-returns-2 Inv-loop μ-loop
 returns-2 c = let l = c .before .loop in sym (l .inv .1 ∙ scan-end _ _ (l .i) (omega arith))
 

@@ -1,27 +1,21 @@
 -- `columns::column_byte` meets its contract: the test on the number picks the case.
 -- Assumes nothing.
-use Rattle.columns.specs.Fields.{column}
 use borrow.Author.Tests.{eq-eqb, ne-eqb}
 use borrow.Author.Needs.{needs}
+use Rattle.columns.specs.Fields.{column}
 use Rattle.columns.proofs.column_byte.Statement.{statement}
 use Rattle.columns.proofs.column_byte.Tie as tie
-use Rattle.columns.proofs.column_byte.Reads as reads
-use Rattle.columns.proofs.column_byte.Lts as lts
 
--- src/lib.rt:18:39
 cast-result : tie.Need-cast-result
 cast-result c = search needs
 
--- src/lib.rt:18:32
 add-result : tie.Need-add-result
 add-result c = search needs
 
--- src/lib.rt:15:1
 returns : tie.Need-returns
 unfolding column
 returns c = simp (eq-eqb _ _ (c .if1 .taken))
 
--- src/lib.rt:15:1
 returns-2 : tie.Need-returns-2
 unfolding column
 returns-2 c = simp (ne-eqb _ _ (c .if1 .left))

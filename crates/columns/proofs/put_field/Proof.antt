@@ -1,81 +1,61 @@
 -- `columns::put_field` meets its contract: five stores, each of a column.
 -- Assumes nothing.
 use native.Mathlib.Omega.{arith}
-use lib.ListN.{length-set}
 use native.Mathlib.Numerals.{towards-suc}
-use Rattle.columns.specs.Fields.{field}
+use lib.ListN.{length-set}
 use borrow.Author.Needs.{needs}
+use Rattle.columns.specs.Fields.{field}
 use Rattle.columns.proofs.put_field.Statement.{statement}
 use Rattle.columns.proofs.put_field.Tie as tie
-use Rattle.columns.proofs.put_field.Reads as reads
-use Rattle.columns.proofs.put_field.Lts as lts
-use Rattle.columns.proofs.column_byte.Reads as column-byte-reads
 
--- src/lib.rt:85:15
 column-byte-requires : tie.Need-column-byte-requires
 column-byte-requires c κs = search needs
 
--- src/lib.rt:85:5
 slice-write-out : tie.Need-slice-write-out
 slice-write-out c = search needs
 
--- src/lib.rt:86:19
 column-byte-requires-2 : tie.Need-column-byte-requires-2
 column-byte-requires-2 c κs = search needs
 
--- src/lib.rt:86:9
 add-out : tie.Need-add-out
 add-out c = search needs
 
--- src/lib.rt:86:5
 slice-write-out-2 : tie.Need-slice-write-out-2
 slice-write-out-2 c = simp length-set (omega arith)
 
--- src/lib.rt:87:19
 column-byte-requires-3 : tie.Need-column-byte-requires-3
 column-byte-requires-3 c κs = search needs
 
--- src/lib.rt:87:9
 add-out-2 : tie.Need-add-out-2
 add-out-2 c = search needs
 
--- src/lib.rt:87:5
 slice-write-out-3 : tie.Need-slice-write-out-3
 slice-write-out-3 c = simp length-set (omega arith)
 
--- src/lib.rt:88:19
 column-byte-requires-4 : tie.Need-column-byte-requires-4
 column-byte-requires-4 c κs = search needs
 
--- src/lib.rt:88:9
 add-out-3 : tie.Need-add-out-3
 add-out-3 c = search needs
 
--- src/lib.rt:88:5
 slice-write-out-4 : tie.Need-slice-write-out-4
 slice-write-out-4 c = simp length-set (omega arith)
 
--- src/lib.rt:89:26
 cast-out : tie.Need-cast-out
 cast-out c = search needs
 
--- src/lib.rt:89:19
 add-out-4 : tie.Need-add-out-4
 add-out-4 c = search needs
 
--- src/lib.rt:89:9
 add-out-5 : tie.Need-add-out-5
 add-out-5 c = search needs
 
--- src/lib.rt:89:5
 slice-write-out-5 : tie.Need-slice-write-out-5
 slice-write-out-5 c = simp length-set (omega arith)
 
--- src/lib.rt:78:1
 same-length : tie.Need-same-length
 same-length c = search needs
 
--- src/lib.rt:78:1
 returns : tie.Need-returns
 unfolding field
 returns c = rw (← c .before .before .before .column-byte .ensures, ← c .before .before .column-byte2 .ensures, ← c .before .column-byte3 .ensures, ← c .column-byte4 .ensures) (simp towards-suc)

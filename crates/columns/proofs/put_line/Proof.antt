@@ -1,22 +1,19 @@
-use Rattle.columns.proofs.Lines.{field-length, fields-length, fields-more}
-use Rattle.columns.proofs.Parts.{over-more}
-use denote.Ref.{now}
 -- `columns::put_line` meets its contract. The loop's invariant: the fields of the numbers passed stand over the front of the output.
 -- Assumes nothing.
-use Prim.Native.Nat.{ℕ, suc, _+_, _-_, _*_, _≤_}
 use mathlib.Core.Path.{_≡_, refl, ap, _∙_}
 use mathlib.Core.List.{[], _∷_}
-use lib.Seq.{sets, length-take-le, take-length}
+use Prim.Native.Nat.{_-_, _*_, _≤_}
 use native.Mathlib.Numerals.{add-one}
 use native.Mathlib.Omega.{arith}
+use lib.Seq.{sets, length-take-le, take-length}
 use lib.ListN.{length, take, getD, set, length-set}
+use denote.Ref.{now}
+use Rattle.columns.proofs.Lines.{field-length, fields-length, fields-more}
+use Rattle.columns.proofs.Parts.{over-more}
 use Rattle.columns.specs.Fields.{field}
 use Rattle.columns.specs.Lines.{fields, line, over}
 use Rattle.columns.proofs.put_line.Statement.{statement}
 use Rattle.columns.proofs.put_line.Tie as tie
-use Rattle.columns.proofs.put_line.Reads as reads
-use Rattle.columns.proofs.put_line.Lts as lts
-use Rattle.columns.proofs.put_field.Reads as put-field-reads
 
 abbrev Inv-loop : tie.InvT-loop
 Inv-loop numbers out₀ i₀ at₀ out i at = (i ≤ length numbers) × (at ≡ 5 * i) × (length out ≡ length out₀) × (out ≡ over (fields (take i numbers)) out₀)
@@ -24,36 +21,28 @@ Inv-loop numbers out₀ i₀ at₀ out i at = (i ≤ length numbers) × (at ≡ 
 abbrev μ-loop : tie.MeasureT-loop
 μ-loop numbers out₀ i₀ at₀ out i at = length numbers - i
 
--- src/lib.rt:99:5
 loop-holds : tie.Need-loop-holds Inv-loop μ-loop
 unfolding fields
 loop-holds c = (omega arith, refl, refl, refl)
 
--- src/lib.rt:100:28
 mul-put-field : tie.Need-mul-put-field Inv-loop μ-loop
 mul-put-field c = omega arith
 
--- src/lib.rt:100:28
 shared-slice-read-put-field : tie.Need-shared-slice-read-put-field Inv-loop μ-loop
 shared-slice-read-put-field c = omega arith
 
--- src/lib.rt:100:9
 put-field-requires : tie.Need-put-field-requires Inv-loop μ-loop
 put-field-requires c κs = omega arith
 
--- src/lib.rt:101:9
 add-at : tie.Need-add-at Inv-loop μ-loop
 add-at c = omega arith
 
--- src/lib.rt:102:9
 add-i : tie.Need-add-i Inv-loop μ-loop
 add-i c = omega arith
 
--- src/lib.rt:99:5
 loop-less : tie.Need-loop-less Inv-loop μ-loop
 loop-less c = omega arith
 
--- src/lib.rt:99:5
 loop-again : tie.Need-loop-again Inv-loop μ-loop
 loop-again c = 
     let s = c .before .before .before .before .before .before .before .before .before in
@@ -65,15 +54,12 @@ loop-again c =
     let stored = over-more (fields (take (l .i) ns)) (field n) (now (s .args .out)) (l .at) long (rw field-length (omega arith)) in
     (omega arith, omega arith, omega (arith, p .kept .0), rw (add-one, fields-more ns (l .i) (omega arith)) (p .ensures ∙ ap (λ o. sets o (l .at) (field n)) (l .inv .3) ∙ stored))
 
--- src/lib.rt:104:5
 slice-write-out : tie.Need-slice-write-out Inv-loop μ-loop
 slice-write-out c = omega arith
 
--- src/lib.rt:93:1
 same-length : tie.Need-same-length Inv-loop μ-loop
 same-length c = simp length-set (c .before .loop .inv .2)
 
--- src/lib.rt:93:1
 returns : tie.Need-returns Inv-loop μ-loop
 unfolding line
 returns c = 

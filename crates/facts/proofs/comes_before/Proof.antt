@@ -1,21 +1,18 @@
-use Rattle.facts.specs.Facts.{before}
+-- `facts::comes_before` meets its contract: the first term that differs decides.
+-- Assumes nothing.
 use borrow.Author.Tests.{eq-eqb, ne-eqb}
+use Rattle.facts.specs.Facts.{before}
 use Rattle.facts.proofs.comes_before.Statement.{statement}
 use Rattle.facts.proofs.comes_before.Tie as tie
-use Rattle.facts.proofs.comes_before.Reads as reads
-use Rattle.facts.proofs.comes_before.Lts as lts
 
--- src/lib.rt:182:9
 returns : tie.Need-returns
 unfolding before
 returns c = simp (ne-eqb _ _ (c .before .before .if1 .taken))
 
--- src/lib.rt:185:9
 returns-2 : tie.Need-returns-2
 unfolding before
 returns-2 c = simp (eq-eqb _ _ (c .before .before .before .before .before .if1 .left), ne-eqb _ _ (c .before .before .if2 .taken))
 
--- src/lib.rt:178:1
 returns-3 : tie.Need-returns-3
 unfolding before
 returns-3 c = simp (eq-eqb _ _ (c .before .before .before .before .before .if1 .left), eq-eqb _ _ (c .before .before .if2 .left))

@@ -1,41 +1,31 @@
-use Rattle.facts.specs.Facts.{faultOf}
+-- `facts::fault` meets its contract: 3, then 4, then 5.
+-- Assumes nothing.
 use borrow.Author.Needs.{needs}
+use Rattle.facts.specs.Facts.{faultOf}
 use Rattle.facts.proofs.fault.Statement.{statement}
 use Rattle.facts.proofs.fault.Tie as tie
-use Rattle.facts.proofs.fault.Reads as reads
-use Rattle.facts.proofs.fault.Lts as lts
-use Rattle.facts.proofs.has_blank.Reads as has-blank-reads
-use Rattle.facts.proofs.has_no_term.Reads as has-no-term-reads
-use Rattle.facts.proofs.is_misplaced.Reads as is-misplaced-reads
 
--- src/lib.rt:165:8
 has-no-term-requires : tie.Need-has-no-term-requires
 has-no-term-requires c κs = search needs
 
--- src/lib.rt:166:9
 returns : tie.Need-returns
 unfolding faultOf
 returns c = rw (← c .before .has-no-term .ensures, c .if1 .taken)
 
--- src/lib.rt:168:8
 has-blank-requires : tie.Need-has-blank-requires
 has-blank-requires c κs = search needs
 
--- src/lib.rt:169:9
 returns-2 : tie.Need-returns-2
 unfolding faultOf
 returns-2 c = rw (← c .before .before .before .has-no-term .ensures, c .before .before .if1 .left, ← c .before .has-blank .ensures, c .if2 .taken)
 
--- src/lib.rt:171:8
 is-misplaced-requires : tie.Need-is-misplaced-requires
 is-misplaced-requires c κs = search needs
 
--- src/lib.rt:172:9
 returns-3 : tie.Need-returns-3
 unfolding faultOf
 returns-3 c = rw (← c .before .before .before .before .before .has-no-term .ensures, c .before .before .before .before .if1 .left, ← c .before .before .before .has-blank .ensures, c .before .before .if2 .left, ← c .before .is-misplaced .ensures, c .if3 .taken)
 
--- src/lib.rt:162:1
 returns-4 : tie.Need-returns-4
 unfolding faultOf
 returns-4 c = rw (← c .before .before .before .before .before .has-no-term .ensures, c .before .before .before .before .if1 .left, ← c .before .before .before .has-blank .ensures, c .before .before .if2 .left, ← c .before .is-misplaced .ensures, c .if3 .left)

@@ -1,20 +1,15 @@
+-- `facts::is_name` meets its contract: the number's kind is asked.
+-- Assumes nothing.
 use borrow.Author.Needs.{needs}
 use Rattle.facts.proofs.is_name.Statement.{statement}
 use Rattle.facts.proofs.is_name.Tie as tie
-use Rattle.facts.proofs.is_name.Reads as reads
-use Rattle.facts.proofs.is_name.Lts as lts
-use Rattle.facts.proofs.is_name_kind.Reads as is-name-kind-reads
-use Rattle.facts.proofs.kind_of.Reads as kind-of-reads
 
--- src/lib.rt:115:18
 kind-of-requires : tie.Need-kind-of-requires
 kind-of-requires c κs = search needs
 
--- src/lib.rt:115:5
 is-name-kind-requires : tie.Need-is-name-kind-requires
 is-name-kind-requires c κs = search needs
 
--- src/lib.rt:112:1
 returns : tie.Need-returns
 returns c = cc
 

@@ -1,19 +1,17 @@
 -- `table::copy` meets its contract. The loop's invariant: the numbers passed stand over the front of the output.
 -- Assumes nothing.
-use Prim.Native.Nat.{ℕ, _+_, _-_, _*_, _/_, _≤_, _<_}
-use mathlib.Core.Path.{_≡_, refl, sym, ap, _∙_}
-use native.Mathlib.Omega.{arith}
+use mathlib.Core.Path.{_≡_, refl, _∙_}
 use mathlib.Core.List.{[], _∷_}
-use lib.ListN.{length, take, getD, set, length-set}
-use lib.Seq.{length-take-le, take-suc}
+use Prim.Native.Nat.{_-_, _≤_}
+use native.Mathlib.Omega.{arith}
 use native.Mathlib.Numerals.{add-one}
+use lib.ListN.{length, take, getD, length-set}
+use lib.Seq.{length-take-le, take-suc}
 use denote.Ref.{now}
 use Rattle.columns.specs.Lines.{over}
 use Rattle.columns.proofs.Parts.{over-more}
 use Rattle.table.proofs.copy.Statement.{statement}
 use Rattle.table.proofs.copy.Tie as tie
-use Rattle.table.proofs.copy.Reads as reads
-use Rattle.table.proofs.copy.Lts as lts
 
 abbrev Inv-loop : tie.InvT-loop
 Inv-loop row count out₀ i₀ out i = (i ≤ count) × (length out ≡ length out₀) × (out ≡ over (take i row) out₀)
@@ -21,35 +19,27 @@ Inv-loop row count out₀ i₀ out i = (i ≤ count) × (length out ≡ length o
 abbrev μ-loop : tie.MeasureT-loop
 μ-loop row count out₀ i₀ out i = count - i
 
--- src/lib.rt:127:5
 loop-holds : tie.Need-loop-holds Inv-loop μ-loop
 loop-holds c = (omega arith, refl, refl)
 
--- src/lib.rt:128:18
 mul-out : tie.Need-mul-out Inv-loop μ-loop
 mul-out c = omega arith
 
--- src/lib.rt:128:18
 shared-slice-read-out : tie.Need-shared-slice-read-out Inv-loop μ-loop
 shared-slice-read-out c = omega arith
 
--- src/lib.rt:128:9
 mul-out-2 : tie.Need-mul-out-2 Inv-loop μ-loop
 mul-out-2 c = omega arith
 
--- src/lib.rt:128:9
 slice-write-out : tie.Need-slice-write-out Inv-loop μ-loop
 slice-write-out c = omega arith
 
--- src/lib.rt:129:9
 add-i : tie.Need-add-i Inv-loop μ-loop
 add-i c = omega arith
 
--- src/lib.rt:127:5
 loop-less : tie.Need-loop-less Inv-loop μ-loop
 loop-less c = omega arith
 
--- src/lib.rt:127:5
 loop-again : tie.Need-loop-again Inv-loop μ-loop
 loop-again c = 
     let s = c .before .before .before in
@@ -58,11 +48,9 @@ loop-again c =
     let stored = over-more (take (l .i) row) (getD row (l .i) 0 ∷ []) (now (s .args .out)) (l .i) (length-take-le (l .i) row (omega arith)) (omega arith) in
     (omega arith, simp length-set (l .inv .1), rw (l .inv .2) (stored ∙ rw (add-one, take-suc row (l .i) 0 (omega arith))))
 
--- src/lib.rt:122:1
 same-length : tie.Need-same-length Inv-loop μ-loop
 same-length c = c .before .loop .inv .1
 
--- src/lib.rt:122:1
 returns : tie.Need-returns Inv-loop μ-loop
 returns c = let e : c .before .loop .i ≡ c .before .before .args .count = omega arith in c .before .loop .inv .2 ∙ rw e
 

@@ -1,47 +1,35 @@
-use mathlib.Core.Path.{sym, _∙_}
 -- `table::judge` meets its contract: the fact's own fault comes first, then its order.
 -- Assumes nothing.
-use Rattle.table.specs.Judged.{judged, orElse}
+use mathlib.Core.Path.{sym, _∙_}
 use borrow.Author.Needs.{needs}
+use Rattle.table.specs.Judged.{judged, orElse}
 use Rattle.table.proofs.judge.Statement.{statement}
 use Rattle.table.proofs.judge.Tie as tie
-use Rattle.table.proofs.judge.Reads as reads
-use Rattle.table.proofs.judge.Lts as lts
-use Rattle.facts.proofs.comes_before.Reads as comes-before-reads
-use Rattle.facts.proofs.fault.Reads as fault-reads
 
--- src/lib.rt:30:9
 fault-requires : tie.Need-fault-requires
 fault-requires c κs = search needs
 
--- src/lib.rt:32:25
 enum-known-v : tie.Need-enum-known-v
 enum-known-v c = search needs
 
--- src/lib.rt:34:16
 enum-told : tie.Need-enum-told
 enum-told c = search needs
 
--- src/lib.rt:35:17
 returns : tie.Need-returns
 unfolding judged orElse
 returns c = let e = sym (c .before .before .before .fault .ensures) ∙ c .before .enum-told .given .1 in rw (e, c .if1 .taken)
 
--- src/lib.rt:37:16
 comes-before-requires : tie.Need-comes-before-requires
 comes-before-requires c κs = search needs
 
--- src/lib.rt:27:1
 returns-2 : tie.Need-returns-2
 unfolding judged orElse
 returns-2 c = let e = sym (c .before .before .before .fault .ensures) ∙ c .before .v .given .1 in rw e
 
--- src/lib.rt:27:1
 returns-3 : tie.Need-returns-3
 unfolding judged orElse
 returns-3 c = let e = sym (c .before .before .before .before .before .fault .ensures) ∙ c .before .before .before .enum-told .given .1 in rw (e, c .before .before .if1 .left, ← c .before .comes-before .ensures, c .if2 .taken)
 
--- src/lib.rt:27:1
 returns-4 : tie.Need-returns-4
 unfolding judged orElse
 returns-4 c = let e = sym (c .before .before .before .before .before .fault .ensures) ∙ c .before .before .before .enum-told .given .1 in rw (e, c .before .before .if1 .left, ← c .before .comes-before .ensures, c .if2 .left)

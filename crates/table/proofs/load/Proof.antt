@@ -1,13 +1,11 @@
 -- `table::load` meets its contract. The loop's invariant: the scan goes on from the line reached, `last` is the fact before it, and the
--- -- facts of the lines passed stand over the front of the row.
+-- facts of the lines passed stand over the front of the row.
 -- Assumes nothing.
-use Prim.Native.Nat.{ℕ, _+_, _-_, _*_, _/_, _≤_, _<_}
-use mathlib.Core.Path.{_≡_, refl, sym, ap, _∙_}
-use mathlib.Core.List.{List}
+use mathlib.Core.Path.{_≡_, refl, sym, _∙_}
+use Prim.Native.Nat.{_+_, _-_, _*_, _/_, _≤_, _<_}
 use native.Mathlib.Omega.{arith}
 use native.Mathlib.Nat.{sub-zero}
 use lib.ListN.{length}
-use lib.Seq.{sets}
 use denote.Ref.{now}
 use borrow.Author.Needs.{needs}
 use Rattle.columns.specs.Lines.{flat, itemsFrom, over}
@@ -21,11 +19,6 @@ use Rattle.table.proofs.Scans.{scan-on, scan-stop, scan-end}
 use Rattle.table.proofs.Rows.{row-length, sized-torn, sized-large, sized-fits, scan-table, loaded-none, loaded-stop, loaded-all}
 use Rattle.table.proofs.load.Statement.{statement}
 use Rattle.table.proofs.load.Tie as tie
-use Rattle.table.proofs.load.Reads as reads
-use Rattle.table.proofs.load.Lts as lts
-use Rattle.table.proofs.line_fact.Reads as line-fact-reads
-use Rattle.table.proofs.line_verdict.Reads as line-verdict-reads
-use Rattle.table.proofs.put_fact.Reads as put-fact-reads
 
 abbrev Inv-loop : tie.InvT-loop
 Inv-loop bytes row₀ size n last₀ i₀ row last i =
@@ -35,7 +28,6 @@ Inv-loop bytes row₀ size n last₀ i₀ row last i =
 abbrev μ-loop : tie.MeasureT-loop
 μ-loop bytes row₀ size n last₀ i₀ row last i = n - i
 
--- src/lib.rt:94:9
 returns : tie.Need-returns Inv-loop μ-loop
 unfolding tableScan
 returns c = 
@@ -43,7 +35,6 @@ returns c =
     let e : tableScan b ≡ Stops Size 0 = rw (sized-torn 16 16384 (length b) (c .if1 .taken)) in
     (sym (scan-table b ∙ e), loaded-none b Size e (now (c .before .before .before .args .row)))
 
--- src/lib.rt:97:9
 returns-2 : tie.Need-returns-2 Inv-loop μ-loop
 unfolding tableScan
 returns-2 c = 
@@ -51,88 +42,71 @@ returns-2 c =
     let e : tableScan b ≡ Stops Size 0 = rw (sized-large 16 16384 (length b) (c .if2 .taken)) in
     (sym (scan-table b ∙ e), loaded-none b Size e (now (c .before .before .before .before .args .row)))
 
--- src/lib.rt:106:5
 loop-holds : tie.Need-loop-holds Inv-loop μ-loop
 unfolding tableScan itemsFrom flat
 loop-holds c = 
     let b = now (c .before .before .before .before .args .bytes) in
     (omega arith, rw (sized-fits 16 16384 (length b) (c .before .if1 .left) (c .if2 .left), sub-zero), (λ h. absurd (omega arith)), refl, refl)
 
--- src/lib.rt:107:15
-line-verdict-requires : tie.Need-line-verdict-requires Inv-loop μ-loop
-line-verdict-requires c κs = record { there = omega arith; before = c .before .loop .inv .2 }
+judge-line-requires : tie.Need-judge-line-requires Inv-loop μ-loop
+judge-line-requires c κs = record { there = omega arith; before = c .before .loop .inv .2 }
 
--- src/lib.rt:108:29
-enum-known-r : tie.Need-enum-known-r Inv-loop μ-loop
-enum-known-r c = search needs
+enum-known-v : tie.Need-enum-known-v Inv-loop μ-loop
+enum-known-v c = search needs
 
--- src/lib.rt:109:40
-add-t14 : tie.Need-add-t14 Inv-loop μ-loop
-add-t14 c = omega arith
+add-t15 : tie.Need-add-t15 Inv-loop μ-loop
+add-t15 c = omega arith
 
--- src/lib.rt:109:39
-cast-t15 : tie.Need-cast-t15 Inv-loop μ-loop
-cast-t15 c = omega arith
+cast-t16 : tie.Need-cast-t16 Inv-loop μ-loop
+cast-t16 c = omega arith
 
--- src/lib.rt:109:17
 same-length : tie.Need-same-length Inv-loop μ-loop
 same-length c = c .before .before .before .before .before .loop .inv .3
 
--- src/lib.rt:109:17
 returns-3 : tie.Need-returns-3 Inv-loop μ-loop
 returns-3 c = 
     let s = c .before .before .before .before .before .before .before .before .before .before in
     let l = c .before .before .before .before .before .loop in
     let b = now (s .args .bytes) in
-    let r = c .before .r .given .0 .0 in
+    let r = c .before .v .given .0 .0 in
     let e : tableScan b ≡ Stops r (l .i + 1) =
-        l .inv .1 ∙ scan-stop (lineVerdict b) (length b / 16) (l .i) (omega arith) (sym (c .before .before .before .line-verdict .ensures) ∙ c .before .r .given .1) in
+        l .inv .1 ∙ scan-stop (lineVerdict b) (length b / 16) (l .i) (omega arith) (sym (c .before .before .before .judge-line .ensures .verdict) ∙ c .before .v .given .1) in
     (sym (scan-table b ∙ e), l .inv .4 ∙ rw (loaded-stop b r (l .i) e))
 
--- src/lib.rt:112:17
 enum-told : tie.Need-enum-told Inv-loop μ-loop
 enum-told c = search needs
 
--- src/lib.rt:112:17
-line-fact-requires : tie.Need-line-fact-requires Inv-loop μ-loop
-line-fact-requires c κs = omega arith
-
--- src/lib.rt:113:17
 put-fact-requires : tie.Need-put-fact-requires Inv-loop μ-loop
 put-fact-requires c κs = omega arith
 
--- src/lib.rt:114:17
 add-i : tie.Need-add-i Inv-loop μ-loop
 add-i c = omega arith
 
--- src/lib.rt:106:5
 loop-less : tie.Need-loop-less Inv-loop μ-loop
 loop-less c = omega arith
 
--- src/lib.rt:106:5
 loop-again : tie.Need-loop-again Inv-loop μ-loop
 loop-again c = 
     let s = c .before .before .before .before .before .before .before .before .before .before .before .before .before .before in
     let l = c .before .before .before .before .before .before .before .before .before .loop in
     let b = now (s .args .bytes) in
-    let f = c .before .before .before .before .line-fact in
+    let j = c .before .before .before .before .before .before .before .judge-line .ensures in
+    let told = c .before .before .before .before .before .enum-told .given .1 in
+    let f = j .fact told in
     let p = c .before .before .put-fact in
-    let e = l .inv .1 ∙ scan-on (lineVerdict b) (length b / 16) (l .i) (omega arith) (sym (c .before .before .before .before .before .before .before .line-verdict .ensures) ∙ c .before .before .before .before .before .enum-told .given .1) in
+    let e = l .inv .1 ∙ scan-on (lineVerdict b) (length b / 16) (l .i) (omega arith) (sym (j .verdict) ∙ told) in
     let i : l .i + 1 - 1 ≡ l .i = omega arith in
     let long : length (rowOf (itemsFrom (lineFact b) 0 (l .i))) ≡ 3 * l .i = rw (row-length, items-length) in
     let stored = over-more (rowOf (itemsFrom (lineFact b) 0 (l .i))) (terms (lineFact b (l .i))) (now (s .args .row)) (3 * l .i) long (omega arith) in
-    (omega arith, e, (λ h. rw i (f .ensures)), omega (arith, p .kept .1 .0),
-      p .ensures ∙ rw (f .ensures, l .inv .4) (stored ∙ rw (flat-more terms (lineFact b) (l .i))))
+    (omega arith, e, (λ h. rw i f), omega (arith, p .kept .1 .0),
+      p .ensures ∙ rw (f, l .inv .4) (stored ∙ rw (flat-more terms (lineFact b) (l .i))))
 
--- src/lib.rt:118:18
-cast-t19 : tie.Need-cast-t19 Inv-loop μ-loop
-cast-t19 c = omega arith
+cast-t20 : tie.Need-cast-t20 Inv-loop μ-loop
+cast-t20 c = omega arith
 
--- src/lib.rt:87:1
 same-length-2 : tie.Need-same-length-2 Inv-loop μ-loop
 same-length-2 c = c .before .loop .inv .3
 
--- src/lib.rt:87:1
 returns-4 : tie.Need-returns-4 Inv-loop μ-loop
 returns-4 c = 
     let s = c .before .before .before .before .before .before in
@@ -152,18 +126,17 @@ load-spec =
     returns
     returns-2
     loop-holds
-    line-verdict-requires
-    enum-known-r
-    add-t14
-    cast-t15
+    judge-line-requires
+    enum-known-v
+    add-t15
+    cast-t16
     same-length
     returns-3
     enum-told
-    line-fact-requires
     put-fact-requires
     add-i
     loop-less
     loop-again
-    cast-t19
+    cast-t20
     same-length-2
     returns-4)

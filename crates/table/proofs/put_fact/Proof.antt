@@ -6,50 +6,37 @@ use lib.ListN.{length-set}
 use borrow.Author.Needs.{needs}
 use Rattle.table.proofs.put_fact.Statement.{statement}
 use Rattle.table.proofs.put_fact.Tie as tie
-use Rattle.table.proofs.put_fact.Reads as reads
-use Rattle.table.proofs.put_fact.Lts as lts
 
--- src/lib.rt:80:14
 mul-at : tie.Need-mul-at
 mul-at c = search needs
 
--- src/lib.rt:81:5
 mul-row : tie.Need-mul-row
 mul-row c = search needs
 
--- src/lib.rt:81:5
 slice-write-row : tie.Need-slice-write-row
 slice-write-row c = search needs
 
--- src/lib.rt:82:9
 add-row : tie.Need-add-row
 add-row c = search needs
 
--- src/lib.rt:82:5
 mul-row-2 : tie.Need-mul-row-2
 mul-row-2 c = search needs
 
--- src/lib.rt:82:5
 slice-write-row-2 : tie.Need-slice-write-row-2
 slice-write-row-2 c = simp length-set (omega arith)
 
--- src/lib.rt:83:9
 add-row-2 : tie.Need-add-row-2
 add-row-2 c = search needs
 
--- src/lib.rt:83:5
 mul-row-3 : tie.Need-mul-row-3
 mul-row-3 c = search needs
 
--- src/lib.rt:83:5
 slice-write-row-3 : tie.Need-slice-write-row-3
 slice-write-row-3 c = simp length-set (omega arith)
 
--- src/lib.rt:76:1
 same-length : tie.Need-same-length
 same-length c = search needs
 
--- src/lib.rt:76:1
 returns : tie.Need-returns
 returns c = simp towards-suc
 

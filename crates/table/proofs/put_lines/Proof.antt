@@ -1,13 +1,12 @@
 -- `table::put_lines` meets its contract. The loop's invariant: the lines of the facts passed stand over the front of the output.
 -- Assumes nothing.
-use Prim.Native.Nat.{ℕ, _+_, _-_, _*_, _/_, _≤_, _<_}
-use mathlib.Core.Path.{_≡_, refl, sym, ap, _∙_}
+use mathlib.Core.Path.{_≡_, refl, sym, _∙_}
+use Prim.Native.Nat.{_+_, _-_, _*_, _≤_}
 use native.Mathlib.Omega.{arith}
 use lib.ListN.{length, take, drop, length-take, length-drop}
-use native.Mathlib.Numerals.{add-one}
-use borrow.Rule.Slice.PartMut.{same-len-mid}
 use denote.Ref.{now}
-use Rattle.columns.specs.Lines.{flat, itemsFrom, over, line}
+use borrow.Rule.Slice.PartMut.{same-len-mid}
+use Rattle.columns.specs.Lines.{flat, itemsFrom, over}
 use Rattle.columns.proofs.Lines.{line-length}
 use Rattle.columns.proofs.Lists.{items-length, flat-more}
 use Rattle.columns.proofs.Parts.{part-more}
@@ -15,9 +14,6 @@ use Rattle.table.specs.Tables.{terms, lineOf, tableBytes, rowFact}
 use Rattle.table.proofs.Rows.{bytes-length, row-part}
 use Rattle.table.proofs.put_lines.Statement.{statement}
 use Rattle.table.proofs.put_lines.Tie as tie
-use Rattle.table.proofs.put_lines.Reads as reads
-use Rattle.table.proofs.put_lines.Lts as lts
-use Rattle.columns.proofs.put_line.Reads as put-line-reads
 
 abbrev Inv-loop : tie.InvT-loop
 Inv-loop row n out₀ i₀ at₀ from₀ out i at from = 
@@ -26,64 +22,49 @@ Inv-loop row n out₀ i₀ at₀ from₀ out i at from =
 abbrev μ-loop : tie.MeasureT-loop
 μ-loop row n out₀ i₀ at₀ from₀ out i at from = n - i
 
--- src/lib.rt:205:5
 loop-holds : tie.Need-loop-holds Inv-loop μ-loop
 unfolding itemsFrom flat
 loop-holds c = (omega arith, refl, refl, refl, refl)
 
--- src/lib.rt:206:38
 add-put-line : tie.Need-add-put-line Inv-loop μ-loop
 add-put-line c = omega arith
 
--- src/lib.rt:206:27
 mul-put-line : tie.Need-mul-put-line Inv-loop μ-loop
 mul-put-line c = omega arith
 
--- src/lib.rt:206:27
 sub-put-line : tie.Need-sub-put-line Inv-loop μ-loop
 sub-put-line c = omega arith
 
--- src/lib.rt:206:27
 part-put-line-start : tie.Need-part-put-line-start Inv-loop μ-loop
 part-put-line-start c = omega arith
 
--- src/lib.rt:206:27
 part-put-line-end : tie.Need-part-put-line-end Inv-loop μ-loop
 part-put-line-end c = omega arith
 
--- src/lib.rt:206:54
 sub-put-line-2 : tie.Need-sub-put-line-2 Inv-loop μ-loop
 sub-put-line-2 c = omega arith
 
--- src/lib.rt:206:54
 part-put-line-start-2 : tie.Need-part-put-line-start-2 Inv-loop μ-loop
 part-put-line-start-2 c = omega arith
 
--- src/lib.rt:206:54
 part-put-line-end-2 : tie.Need-part-put-line-end-2 Inv-loop μ-loop
 part-put-line-end-2 c = omega arith
 
--- src/lib.rt:206:9
 put-line-requires : tie.Need-put-line-requires Inv-loop μ-loop
 put-line-requires c κs = simp (length-take, length-drop) (omega arith)
 
--- src/lib.rt:207:9
 add-at : tie.Need-add-at Inv-loop μ-loop
 add-at c = omega arith
 
--- src/lib.rt:208:9
 add-from : tie.Need-add-from Inv-loop μ-loop
 add-from c = omega arith
 
--- src/lib.rt:209:9
 add-i : tie.Need-add-i Inv-loop μ-loop
 add-i c = omega arith
 
--- src/lib.rt:205:5
 loop-less : tie.Need-loop-less Inv-loop μ-loop
 loop-less c = omega arith
 
--- src/lib.rt:205:5
 loop-again : tie.Need-loop-again Inv-loop μ-loop
 loop-again c = 
     let s = c .before .before .before .before .before .before .before .before .before in
@@ -98,11 +79,9 @@ loop-again c =
     let e = part-more (l .out) (tableBytes (itemsFrom (rowFact row) 0 (l .i))) (lineOf (rowFact row (l .i))) out (p .last .1 .0) (l .at) (l .inv .4) (l .inv .3) long room (p .ensures ∙ rw numbers) in
     (omega arith, omega arith, omega arith, same-len-mid (l .at) (length (l .out) - l .at) (l .out) (p .last .1 .0) (p .kept .1 .0) ∙ l .inv .3, e ∙ rw (flat-more lineOf (rowFact row) (l .i)))
 
--- src/lib.rt:198:1
 same-length : tie.Need-same-length Inv-loop μ-loop
 same-length c = c .before .loop .inv .3
 
--- src/lib.rt:198:1
 returns : tie.Need-returns Inv-loop μ-loop
 returns c = let e : c .before .loop .i ≡ c .before .before .before .before .args .n = omega arith in c .before .loop .inv .4 ∙ rw e
 

@@ -1,48 +1,36 @@
 -- `table::read` meets its contract: what `load` left is copied where there is room for it.
 -- Assumes nothing.
-use Prim.Native.Nat.{_+_, _*_, _≤_}
 use mathlib.Core.Path.{_≡_, sym, ap, _∙_}
+use Prim.Native.Nat.{_*_}
 use native.Mathlib.Omega.{arith}
-use lib.ListN.{length, take, drop, replicate}
+use lib.ListN.{length, take}
 use lib.Seq.{take-at}
 use denote.Ref.{now}
-use Rattle.columns.specs.Lines.{over}
+use borrow.Author.Needs.{needs}
 use Rattle.facts.specs.declared.Answer.the-variants.{Done}
 use Rattle.table.specs.Tables.{rowOf, tableOf}
 use Rattle.table.proofs.Rows.{row-length, scan-passes, scan-stops, accepted-size, loaded-accepted, settle-refused, settle-short, settle-done}
-use borrow.Author.Needs.{needs}
 use Rattle.table.proofs.read.Statement.{statement}
 use Rattle.table.proofs.read.Tie as tie
-use Rattle.table.proofs.read.Reads as reads
-use Rattle.table.proofs.read.Lts as lts
-use Rattle.table.proofs.copy.Reads as copy-reads
-use Rattle.table.proofs.load.Reads as load-reads
 
--- src/lib.rt:139:23
 slice-aggregate-load : tie.Need-slice-aggregate-load
 slice-aggregate-load c = search needs
 
--- src/lib.rt:139:11
 load-requires : tie.Need-load-requires
 load-requires c κs = search needs
 
--- src/lib.rt:140:21
 enum-known-r : tie.Need-enum-known-r
 enum-known-r c = search needs
 
--- src/lib.rt:141:22
 enum-known-n : tie.Need-enum-known-n
 enum-known-n c = search needs
 
--- src/lib.rt:142:34
 cast-count : tie.Need-cast-count
 cast-count c = search needs
 
--- src/lib.rt:142:25
 mul-count : tie.Need-mul-count
 mul-count c = search needs
 
--- src/lib.rt:144:17
 returns : tie.Need-returns
 returns c = 
     let b = now (c .before .before .before .before .before .before .before .before .before .args .bytes) in
@@ -51,11 +39,9 @@ returns c =
     let e = settle-short rowOf (tableOf b) row (p .0) (p .1) (rw row-length (omega (arith, p .2))) in
     (sym (e .0), sym (e .1))
 
--- src/lib.rt:146:18
 slice-aggregate-copy : tie.Need-slice-aggregate-copy
 slice-aggregate-copy c = search needs
 
--- src/lib.rt:146:13
 copy-requires : tie.Need-copy-requires
 copy-requires c κs = 
     let b = now (c .before .before .before .before .before .before .before .before .before .before .before .args .bytes) in
@@ -63,18 +49,15 @@ copy-requires c κs =
     let few = accepted-size b (p .0) (p .1) in
     (omega (arith, few .1, p .2, c .before .before .before .before .before .before .before .load .kept .1 .0), omega arith)
 
--- src/lib.rt:134:1
 returns-2 : tie.Need-returns-2
 returns-2 c = 
     let b = now (c .before .before .before .before .before .before .before .before .args .bytes) in
     let e = settle-refused rowOf (tableOf b) (now (c .before .before .before .before .before .before .before .before .args .row)) _ _ (scan-stops (tableOf b) _ _ (sym (c .before .before .before .before .load .ensures .0) ∙ c .before .r .given .1)) in
     (sym (e .0), sym (e .1))
 
--- src/lib.rt:134:1
 same-length : tie.Need-same-length
 same-length c = search needs
 
--- src/lib.rt:134:1
 returns-3 : tie.Need-returns-3
 returns-3 c = 
     let b = now (c .before .before .before .before .before .before .before .before .before .before .before .before .before .before .args .bytes) in

@@ -1,49 +1,37 @@
 -- `table::row_fact` meets its contract: three reads.
 -- Assumes nothing.
-use Rattle.table.specs.Tables.{rowFact}
 use borrow.Author.Needs.{needs}
+use Rattle.table.specs.Tables.{rowFact}
 use Rattle.table.proofs.row_fact.Statement.{statement}
 use Rattle.table.proofs.row_fact.Tie as tie
-use Rattle.table.proofs.row_fact.Reads as reads
-use Rattle.table.proofs.row_fact.Lts as lts
 
--- src/lib.rt:156:14
 mul-at : tie.Need-mul-at
 mul-at c = search needs
 
--- src/lib.rt:158:18
 mul-t4 : tie.Need-mul-t4
 mul-t4 c = search needs
 
--- src/lib.rt:158:18
 shared-slice-read-t6 : tie.Need-shared-slice-read-t6
 shared-slice-read-t6 c = search needs
 
--- src/lib.rt:159:24
 add-t7 : tie.Need-add-t7
 add-t7 c = search needs
 
--- src/lib.rt:159:20
 mul-t8 : tie.Need-mul-t8
 mul-t8 c = search needs
 
--- src/lib.rt:159:20
 shared-slice-read-t10 : tie.Need-shared-slice-read-t10
 shared-slice-read-t10 c = search needs
 
--- src/lib.rt:160:21
 add-t11 : tie.Need-add-t11
 add-t11 c = search needs
 
--- src/lib.rt:160:17
 mul-t12 : tie.Need-mul-t12
 mul-t12 c = search needs
 
--- src/lib.rt:160:17
 shared-slice-read-t14 : tie.Need-shared-slice-read-t14
 shared-slice-read-t14 c = search needs
 
--- src/lib.rt:152:1
 returns : tie.Need-returns
 unfolding rowFact
 returns c = cc

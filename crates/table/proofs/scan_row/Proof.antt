@@ -1,24 +1,18 @@
 -- `table::scan_row` meets its contract. The loop's invariant: the scan goes on from the fact reached, and `last` is the fact before it.
 -- Assumes nothing.
-use Prim.Native.Nat.{ℕ, _+_, _-_, _*_, _/_, _≤_, _<_}
-use mathlib.Core.Path.{_≡_, refl, sym, ap, _∙_}
+use mathlib.Core.Path.{_≡_, sym, _∙_}
+use Prim.Native.Nat.{_+_, _-_, _/_, _≤_, _<_}
 use native.Mathlib.Omega.{arith}
 use native.Mathlib.Nat.{sub-zero}
 use lib.ListN.{length}
 use denote.Ref.{now}
 use borrow.Author.Needs.{needs}
-use Rattle.facts.specs.declared.Refusal.the-variants.{Size}
-use Rattle.table.specs.declared.Scan.the-variants.{Stops, Passes}
 use Rattle.table.specs.Scans.{scan}
 use Rattle.table.specs.Tables.{rowFact, rowVerdict, rowScan}
 use Rattle.table.proofs.Scans.{judged-line, scan-on, scan-stop, scan-end}
 use Rattle.table.proofs.Rows.{sized-torn, sized-large, sized-fits, scan-row}
 use Rattle.table.proofs.scan_row.Statement.{statement}
 use Rattle.table.proofs.scan_row.Tie as tie
-use Rattle.table.proofs.scan_row.Reads as reads
-use Rattle.table.proofs.scan_row.Lts as lts
-use Rattle.table.proofs.judge.Reads as judge-reads
-use Rattle.table.proofs.row_fact.Reads as row-fact-reads
 
 abbrev Inv-loop : tie.InvT-loop
 Inv-loop row size n last₀ i₀ last i = (i ≤ n) × (rowScan row ≡ scan (rowVerdict row) i (n - i)) × (0 < i → last ≡ rowFact row (i - 1))
@@ -26,44 +20,35 @@ Inv-loop row size n last₀ i₀ last i = (i ≤ n) × (rowScan row ≡ scan (ro
 abbrev μ-loop : tie.MeasureT-loop
 μ-loop row size n last₀ i₀ last i = n - i
 
--- src/lib.rt:170:9
 returns : tie.Need-returns Inv-loop μ-loop
 unfolding rowScan
 returns c = let row = now (c .before .before .args .row) in sym (scan-row row ∙ rw (sized-torn 3 3072 (length row) (c .if1 .taken)))
 
--- src/lib.rt:173:9
 returns-2 : tie.Need-returns-2 Inv-loop μ-loop
 unfolding rowScan
 returns-2 c = let row = now (c .before .before .before .args .row) in sym (scan-row row ∙ rw (sized-large 3 3072 (length row) (c .if2 .taken)))
 
--- src/lib.rt:182:5
 loop-holds : tie.Need-loop-holds Inv-loop μ-loop
 unfolding rowScan
 loop-holds c = 
     let row = now (c .before .before .before .args .row) in
     (omega arith, rw (sized-fits 3 3072 (length row) (c .before .if1 .left) (c .if2 .left), sub-zero), (λ h. absurd (omega arith)))
 
--- src/lib.rt:183:13
 row-fact-requires : tie.Need-row-fact-requires Inv-loop μ-loop
 row-fact-requires c κs = omega arith
 
--- src/lib.rt:184:15
 judge-requires : tie.Need-judge-requires Inv-loop μ-loop
 judge-requires c κs = search needs
 
--- src/lib.rt:185:29
 enum-known-r : tie.Need-enum-known-r Inv-loop μ-loop
 enum-known-r c = search needs
 
--- src/lib.rt:186:40
 add-t14 : tie.Need-add-t14 Inv-loop μ-loop
 add-t14 c = omega arith
 
--- src/lib.rt:186:39
 cast-t15 : tie.Need-cast-t15 Inv-loop μ-loop
 cast-t15 c = omega arith
 
--- src/lib.rt:186:17
 returns-3 : tie.Need-returns-3 Inv-loop μ-loop
 unfolding rowVerdict
 returns-3 c = 
@@ -72,19 +57,15 @@ returns-3 c =
     let e : rowVerdict row (l .i) ≡ _ = judged-line (rowFact row) (l .i) (l .last) (l .inv .2) ∙ rw (← c .before .before .before .before .row-fact .ensures) (sym (c .before .before .before .judge .ensures)) ∙ c .before .r .given .1 in
     sym (scan-row row ∙ l .inv .1 ∙ scan-stop (rowVerdict row) (length row / 3) (l .i) (omega arith) e)
 
--- src/lib.rt:189:17
 enum-told : tie.Need-enum-told Inv-loop μ-loop
 enum-told c = search needs
 
--- src/lib.rt:190:17
 add-i : tie.Need-add-i Inv-loop μ-loop
 add-i c = omega arith
 
--- src/lib.rt:182:5
 loop-less : tie.Need-loop-less Inv-loop μ-loop
 loop-less c = omega arith
 
--- src/lib.rt:182:5
 loop-again : tie.Need-loop-again Inv-loop μ-loop
 unfolding rowVerdict
 loop-again c = 
@@ -94,11 +75,9 @@ loop-again c =
     let i : l .i + 1 - 1 ≡ l .i = omega arith in
     (omega arith, l .inv .1 ∙ scan-on (rowVerdict row) (length row / 3) (l .i) (omega arith) e, (λ h. rw i (c .before .before .before .row-fact .ensures)))
 
--- src/lib.rt:194:18
 cast-t16 : tie.Need-cast-t16 Inv-loop μ-loop
 cast-t16 c = omega arith
 
--- src/lib.rt:165:1
 returns-4 : tie.Need-returns-4 Inv-loop μ-loop
 returns-4 c = 
     let l = c .before .loop in

@@ -1,42 +1,30 @@
 -- `table::write` meets its contract: the row's facts are written where there is room for them.
 -- Assumes nothing.
-use Prim.Native.Nat.{_+_, _*_, _≤_}
-use mathlib.Core.Path.{_≡_, sym, ap, _∙_}
+use mathlib.Core.Path.{sym, ap, _∙_}
 use native.Mathlib.Omega.{arith}
-use lib.ListN.{length}
 use denote.Ref.{now}
-use Rattle.facts.specs.declared.Answer.the-variants.{Done}
-use Rattle.table.specs.Tables.{tableBytes, tableOfRow, rowFact}
-use Rattle.table.proofs.Rows.{bytes-length, scan-passes, scan-stops, row-size, row-facts, settle-refused, settle-short, settle-done}
 use borrow.Author.Needs.{needs}
+use Rattle.facts.specs.declared.Answer.the-variants.{Done}
+use Rattle.table.specs.Tables.{tableBytes, tableOfRow}
+use Rattle.table.proofs.Rows.{bytes-length, scan-passes, scan-stops, row-size, row-facts, settle-refused, settle-short, settle-done}
 use Rattle.table.proofs.write.Statement.{statement}
 use Rattle.table.proofs.write.Tie as tie
-use Rattle.table.proofs.write.Reads as reads
-use Rattle.table.proofs.write.Lts as lts
-use Rattle.table.proofs.put_lines.Reads as put-lines-reads
-use Rattle.table.proofs.scan_row.Reads as scan-row-reads
 
--- src/lib.rt:219:11
 scan-row-requires : tie.Need-scan-row-requires
 scan-row-requires c κs = search needs
 
--- src/lib.rt:220:21
 enum-known-r : tie.Need-enum-known-r
 enum-known-r c = search needs
 
--- src/lib.rt:221:22
 enum-known-n : tie.Need-enum-known-n
 enum-known-n c = search needs
 
--- src/lib.rt:222:25
 cast-count : tie.Need-cast-count
 cast-count c = search needs
 
--- src/lib.rt:223:28
 mul-if1 : tie.Need-mul-if1
 mul-if1 c = search needs
 
--- src/lib.rt:224:17
 returns : tie.Need-returns
 returns c = 
     let row = now (c .before .before .before .before .before .before .before .args .row) in
@@ -44,7 +32,6 @@ returns c =
     let e = settle-short tableBytes (tableOfRow row) (now (c .before .before .before .before .before .before .before .args .out)) (p .0) (p .1) (rw bytes-length (omega (arith, p .2))) in
     (sym (e .0), sym (e .1))
 
--- src/lib.rt:226:13
 put-lines-requires : tie.Need-put-lines-requires
 put-lines-requires c κs = 
     let row = now (c .before .before .before .before .before .before .before .before .args .row) in
@@ -52,18 +39,15 @@ put-lines-requires c κs =
     let few = row-size row (p .0) (p .1) in
     (omega (arith, few .1, p .2), omega (arith, few .0, p .2), omega arith)
 
--- src/lib.rt:215:1
 returns-2 : tie.Need-returns-2
 returns-2 c = 
     let row = now (c .before .before .before .before .before .before .args .row) in
     let e = settle-refused tableBytes (tableOfRow row) (now (c .before .before .before .before .before .before .args .out)) _ _ (scan-stops (tableOfRow row) _ _ (sym (c .before .before .before .scan-row .ensures) ∙ c .before .r .given .1)) in
     (sym (e .0), sym (e .1))
 
--- src/lib.rt:215:1
 same-length : tie.Need-same-length
 same-length c = search needs
 
--- src/lib.rt:215:1
 returns-3 : tie.Need-returns-3
 returns-3 c = 
     let row = now (c .before .before .before .before .before .before .before .before .before .before .before .args .row) in

@@ -1,0 +1,132 @@
+-- The first line of a reply: number, place and count fit their columns, so they are read back, and the number is never 8.
+-- Assumes nothing.
+use mathlib.Core.Path.{_≡_, refl, sym, _∙_}
+use mathlib.Core.Logic.{_⊎_, ⊎-elim}
+use mathlib.Core.Bool.{Bool, true, false}
+use mathlib.Core.Option.{Option, none, some}
+use mathlib.Core.List.{List, [], _∷_}
+use Prim.Native.Nat.{ℕ, _-_, _/_, _≤_}
+use native.Mathlib.Omega.{arith}
+use lib.ListN.{length}
+use lib.Dec.{leb}
+use borrow.Author.Tests.{le-leb, leb-true}
+use Rattle.columns.specs.Lines.{numbersAt, laidOut, Below}
+use Rattle.columns.proofs.Lines.{line-read}
+use Rattle.facts.specs.declared.Fact.{Fact}
+use Rattle.facts.specs.declared.Code.{Code}
+use Rattle.facts.specs.declared.Refusal.{Refusal}
+use Rattle.facts.specs.declared.Refusal.the-variants.{Size, Column, Term, Blank, Part, Order, Allowance, Short, Form, Step, End}
+use Rattle.facts.specs.declared.Verdict.{Verdict}
+use Rattle.facts.specs.declared.Verdict.the-variants.{Sound, Faulty}
+use Rattle.facts.specs.declared.Answer.{Answer}
+use Rattle.facts.specs.declared.Answer.the-variants.{Refused}
+use Rattle.facts.specs.Facts.{hasNoTerm, hasBlank, misplaced, faultOf}
+use Rattle.facts.specs.Answers.{codeOf, numberOf}
+use Rattle.facts.proofs.Terms.{by-cases}
+use Rattle.table.specs.Judged.{orElse}
+use Rattle.table.specs.Scans.{earns}
+use Rattle.table.specs.Tables.{Table, accepted, refused, lineFact, lineVerdict, sized, tableOf}
+use Rattle.table.proofs.Rows.{sized-says, accepted-size}
+use Rattle.table.proofs.Tables.{Stopped, tableOf-refused, line-refused}
+use Rattle.rules.specs.Paths.{fewest}
+use Rattle.search.specs.Question.{needed, questionFault, asked, answerBy, answerOf, unless, answerFrom, questionAnswer, printedFrom}
+use Rattle.search.proofs.Answered.{fewest-meant}
+use Rattle.batch.specs.declared.Question.{Question}
+use Rattle.batch.specs.Output.{codeLine, behindCode, replyTo}
+
+-- a code that fits its columns, and is not 8
+record Plain (c : Code) : Type 0 where
+  number : c .number ≤ 93
+  place : c .place ≤ 1024
+  count : c .count ≤ 1024
+  not-short : c .number ≡ 8 → ⊥
+
+-- ---- refusals
+
+-- a refusal that a line can earn
+earned : (laid : Bool) (at : ℕ → Fact) (i : ℕ) (r : Refusal) → earns laid at i r ≡ true → numberOf r ≤ 6
+unfolding earns
+earned laid at i Column e = omega arith
+earned laid at i Term e = omega arith
+earned laid at i Blank e = omega arith
+earned laid at i Part e = omega arith
+earned laid at i Order e = omega arith
+earned laid at i Size e = omega arith
+earned laid at i Allowance e = let z : _≡_ {A = ℕ} 0 1 = cc in absurd (omega arith)
+earned laid at i Short e = let z : _≡_ {A = ℕ} 0 1 = cc in absurd (omega arith)
+earned laid at i Form e = let z : _≡_ {A = ℕ} 0 1 = cc in absurd (omega arith)
+earned laid at i Step e = let z : _≡_ {A = ℕ} 0 1 = cc in absurd (omega arith)
+earned laid at i End e = let z : _≡_ {A = ℕ} 0 1 = cc in absurd (omega arith)
+
+-- a table's refusal is one of 1 to 6, on one of at most 1,024 lines
+table-refused : (b : List ℕ) (r : Refusal) (place : ℕ) → tableOf b ≡ refused r place → (numberOf r ≤ 6) × (place ≤ 1024)
+table-refused b r place e =
+    ⊎-elim
+    (λ (p : (sized 16 16384 (length b) ≡ false) × (r ≡ Size) × (place ≡ 0)). (rw (p .1) (omega arith), omega (arith, p .2)))
+    (λ (p : (sized 16 16384 (length b) ≡ true) × Stopped (lineVerdict b) (length b / 16) r place).
+    let s = p .1 in
+    let fits = sized-says 16 16384 (length b) (p .0) in
+    (earned _ (lineFact b) (s .line) r (line-refused b (s .line) r .0 (s .refuses) .here), omega (arith, s .counted, s .within, fits)))
+    (tableOf-refused b r place .0 e)
+
+-- the fact's own refusals are 3, 4 and 5
+fault-number : (t : Fact) (r : Refusal) → faultOf t ≡ Faulty r → numberOf r ≤ 5
+unfolding faultOf
+fault-number t r e =
+    by-cases (hasNoTerm t) (λ a. said Term (rw a at e) (omega arith))
+    (λ a. by-cases (hasBlank t) (λ b. said Blank (rw (a, b) at e) (omega arith))
+    (λ b. by-cases (misplaced t) (λ c. said Part (rw (a, b, c) at e) (omega arith))
+    (λ c. let x : Sound ≡ Faulty r = rw (a, b, c) at e in let z : _≡_ {A = ℕ} 0 1 = cc in absurd (omega arith))))
+  where
+    said : (q : Refusal) → Faulty q ≡ Faulty r → numberOf q ≤ 5 → numberOf r ≤ 5
+    said q x h = let y : q ≡ r = cc in rw y at h
+
+-- with memory for every limit the question itself adds 7, and never 8
+asked-number : (t : Fact) (limit : ℕ) (r : Refusal) → asked t limit (needed 1024) ≡ Faulty r → (numberOf r ≤ 7)
+unfolding asked orElse questionFault
+asked-number t limit r e = go (faultOf t) refl
+  where
+    go : (v : Verdict) → faultOf t ≡ v → numberOf r ≤ 7
+    go (Faulty q) p = let x : Faulty q ≡ Faulty r = rw p at e in omega (arith, fault-number t r (p ∙ x))
+    go Sound p =
+        by-cases (leb limit 1024)
+        (λ y. let n : needed limit ≤ needed 1024 = omega (arith, leb-true limit 1024 y) in
+        let x : Sound ≡ Faulty r = rw (p, y, le-leb (needed limit) (needed 1024) n) at e in let z : _≡_ {A = ℕ} 0 1 = cc in absurd (omega arith))
+        (λ y. let x : Faulty Allowance ≡ Faulty r = rw (p, y) at e in let z : Allowance ≡ r = cc in rw (sym z) (omega arith))
+
+refused-plain : (r : Refusal) (place : ℕ) → numberOf r ≤ 7 → place ≤ 1024 → Plain (codeOf (Refused r place))
+refused-plain r place n p = record { number = omega arith; place = p; count = omega arith; not-short = λ e. omega arith }
+
+-- ---- answers
+
+found-plain : (limit : ℕ) (o : Option ℕ) → ((f : ℕ) → o ≡ some f → f ≤ 1024) → Plain (codeOf (answerBy limit o))
+unfolding answerBy
+found-plain limit none few = record { number = omega arith; place = omega arith; count = omega arith; not-short = λ e. omega arith }
+found-plain limit (some f) few =
+    by-cases (leb f limit)
+    (λ y. rw y (record { number = omega arith; place = omega arith; count = few f refl; not-short = λ e. omega arith }))
+    (λ y. rw y (record { number = omega arith; place = omega arith; count = few f refl; not-short = λ e. omega arith }))
+
+answer-plain : (table : List ℕ) (t : Fact) (limit : ℕ) → Plain (codeOf (questionAnswer table t limit (needed 1024)))
+unfolding questionAnswer answerFrom answerOf
+answer-plain table t limit = go (tableOf table) refl
+  where
+    judged : (facts : List Fact) → tableOf table ≡ accepted facts → (v : Verdict) → asked t limit (needed 1024) ≡ v → Plain (codeOf (unless v (answerBy limit (fewest facts t))))
+    judged facts is (Faulty r) e = unfold unless in refused-plain r 0 (asked-number t limit r e) (omega arith)
+    judged facts is Sound e =
+        unfold unless in found-plain limit (fewest facts t) (λ f k. omega (arith, fewest-meant table t facts is f k .1, accepted-size table facts is .1))
+
+    go : (T : Table) → tableOf table ≡ T → Plain (codeOf (questionAnswer table t limit (needed 1024)))
+    go (refused r place) is = let p = table-refused table r place is in rw is (refused-plain r place (omega (arith, p .0)) (p .1))
+    go (accepted facts) is = rw is (judged facts is (asked t limit (needed 1024)) refl)
+
+-- the first line of a reply reads as number, place and count of the answer, and the number is never 8
+pub reply-code : (table : List ℕ) (q : Question) (a : Answer) → a ≡ questionAnswer table (q .fact) (q .limit) (needed 1024)
+    → (laidOut 3 (replyTo table q) 0 ≡ true) × (numbersAt 3 (replyTo table q) 0 ≡ codeOf a .number ∷ codeOf a .place ∷ codeOf a .count ∷ []) × (codeOf a .number ≡ 8 → ⊥)
+unfolding replyTo codeLine Below
+reply-code table q a e =
+    let p : Plain (codeOf a) = rw e (answer-plain table (q .fact) (q .limit)) in
+    let code = codeOf a .number ∷ codeOf a .place ∷ codeOf a .count ∷ [] in
+    let below : Below code = (omega (arith, p .number), (omega (arith, p .place), (omega (arith, p .count), tt))) in
+    let r = line-read code (replyTo table q) (behindCode a (printedFrom (tableOf table) (q .fact))) 0 below (rw e) in
+    (r .0, r .1, p .not-short)

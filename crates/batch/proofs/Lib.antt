@@ -1,0 +1,4 @@
+pub mod Inputs
+pub mod Replies
+pub mod Codes
+pub mod Whole

@@ -1,0 +1,6 @@
+pub mod Small
+pub mod Codes
+pub mod Refusals
+pub mod Demands
+pub mod Confirms
+pub mod Cases

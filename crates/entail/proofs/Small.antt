@@ -1,0 +1,169 @@
+-- Every answer fits the bits of its number: places are line numbers, and counts are numbers of facts or lines.
+-- Assumes nothing.
+use mathlib.Core.Path.{_≡_, refl}
+use mathlib.Core.Logic.{_⊎_, ⊎-elim}
+use mathlib.Core.Bool.{Bool, true, false, _&&_}
+use mathlib.Core.Option.{Option, none, some}
+use mathlib.Core.List.{List, [], _∷_}
+use Prim.Native.Nat.{ℕ, _+_, _-_, _*_, _/_, _%_, _≤_, _<_}
+use native.Mathlib.Omega.{arith}
+use lib.ListN.{length, length-map}
+use lib.Dec.{eqb, leb, ltb}
+use Rattle.columns.proofs.Fields.{both}
+use Rattle.columns.proofs.Lists.{items-length}
+use Rattle.facts.specs.declared.Fact.{Fact}
+use Rattle.facts.specs.declared.Code.{Code}
+use Rattle.facts.specs.declared.Refusal.{Refusal}
+use Rattle.facts.specs.declared.Refusal.the-variants.{Size, Column, Term, Blank, Part, Order, Allowance, Short, Form, Step, End}
+use Rattle.facts.specs.declared.Verdict.{Verdict}
+use Rattle.facts.specs.declared.Verdict.the-variants.{Sound, Faulty}
+use Rattle.facts.specs.declared.Answer.{Answer}
+use Rattle.facts.specs.declared.Answer.the-variants.{Refused}
+use Rattle.facts.specs.Facts.{faultOf}
+use Rattle.facts.specs.Answers.{codeOf, numberOf}
+use Rattle.facts.proofs.Terms.{by-cases}
+use Rattle.table.specs.declared.Scan.{Scan}
+use Rattle.table.specs.declared.Scan.the-variants.{Passes, Stops}
+use Rattle.table.specs.Scans.{scan}
+use Rattle.table.specs.Tables.{Table, accepted, refused, rowOf, tableBytes, tableOf, tableOfRow, lineVerdict, rowVerdict, sized, settled}
+use Rattle.table.proofs.Rows.{sized-says, accepted-size, row-size}
+use Rattle.table.proofs.Tables.{Stopped, Refusable, tableOf-refused, tableOfRow-refused, scan-stopped}
+use Rattle.rules.specs.declared.Line.{Line}
+use Rattle.rules.specs.Graph.{keep}
+use Rattle.rules.specs.Derivations.{tableLines}
+use Rattle.rules.specs.Steps.{same}
+use Rattle.derivation.specs.Bytes.{lineAt}
+use Rattle.rules.specs.Paths.{fewest}
+use Rattle.search.specs.Question.{asked, answerBy, answerOf, unless, answerFrom, questionAnswer}
+use Rattle.search.proofs.Answered.{fewest-meant}
+use Rattle.checker.specs.Check.{linesOf, formVerdict, stepVerdict, after, endAnswer, linesAnswer, derivationAnswer, factAnswer, tableAnswer, checkAnswer}
+use Rattle.entail.specs.Packed.{packed, unpacked, Small}
+
+-- what is packed is unpacked again
+pub unpack-pack : (c : Code) → Small c → unpacked (packed c) ≡ c
+unfolding unpacked
+unpack-pack c s =
+    let n : packed c % 256 ≡ c .number = omega (arith, s .number) in
+    let q : packed c / 256 ≡ c .place + 16777216 * c .count = omega (arith, s .number) in
+    let p : packed c / 256 % 16777216 ≡ c .place = rw q (omega (arith, s .place)) in
+    let h : packed c / 4294967296 ≡ c .count = omega (arith, s .number, s .place) in
+    let k : packed c / 4294967296 % 65536 ≡ c .count = rw h (omega (arith, s .count)) in
+    λ i. record { number = n i; place = p i; count = k i }
+
+number-small : (r : Refusal) → numberOf r < 256
+number-small Size = omega arith
+number-small Column = omega arith
+number-small Term = omega arith
+number-small Blank = omega arith
+number-small Part = omega arith
+number-small Order = omega arith
+number-small Allowance = omega arith
+number-small Short = omega arith
+number-small Form = omega arith
+number-small Step = omega arith
+number-small End = omega arith
+
+pub refused-small : (r : Refusal) (place : ℕ) → place ≤ 2047 → Small (codeOf (Refused r place))
+refused-small r place h = record { number = number-small r; place = omega arith; count = omega arith }
+
+-- ---- tables
+
+place-small : (fits : Bool) (judge : ℕ → Verdict) (n : ℕ) (r : Refusal) (place : ℕ) → (fits ≡ true → n ≤ 2047) → Refusable fits judge n r place → place ≤ 2047
+place-small fits judge n r place h =
+    ⊎-elim (λ (p : (fits ≡ false) × (r ≡ Size) × (place ≡ 0)). omega (arith, p .2))
+    (λ (p : (fits ≡ true) × Stopped judge n r place). omega (arith, h (p .0), p .1 .counted, p .1 .within))
+
+pub table-place : (b : List ℕ) (r : Refusal) (place : ℕ) → tableOf b ≡ refused r place → place ≤ 2047
+table-place b r place e =
+    place-small (sized 16 16384 (length b)) (lineVerdict b) (length b / 16) r place (λ t. let s = sized-says 16 16384 (length b) t in omega arith) (tableOf-refused b r place .0 e)
+
+row-place : (row : List ℕ) (r : Refusal) (place : ℕ) → tableOfRow row ≡ refused r place → place ≤ 2047
+row-place row r place e =
+    place-small (sized 3 3072 (length row)) (rowVerdict row) (length row / 3) r place (λ t. let s = sized-says 3 3072 (length row) t in omega arith) (tableOfRow-refused row r place .0 e)
+
+-- reading and writing, over any table whose places and facts are few
+settled-small : (content : List Fact → List ℕ) (t : Table) (m : ℕ) → ((r : Refusal) (place : ℕ) → t ≡ refused r place → place ≤ 2047) → ((facts : List Fact) → t ≡ accepted facts → length facts ≤ 1024)
+    → Small (codeOf (settled content t m))
+unfolding settled
+settled-small content (refused r place) m p f = refused-small r place (p r place refl)
+settled-small content (accepted facts) m p f =
+    by-cases (leb (length (content facts)) m)
+    (λ e. rw e (record { number = omega arith; place = omega arith; count = omega (arith, f facts refl) }))
+    (λ e. rw e (refused-small Short 0 (omega arith)))
+
+pub read-small : (b : List ℕ) (m : ℕ) → Small (codeOf (settled rowOf (tableOf b) m))
+read-small b m = settled-small rowOf (tableOf b) m (table-place b) (λ facts e. accepted-size b facts e .1)
+
+pub write-small : (row : List ℕ) (m : ℕ) → Small (codeOf (settled tableBytes (tableOfRow row) m))
+write-small row m = settled-small tableBytes (tableOfRow row) m (row-place row) (λ facts e. row-size row facts e .1)
+
+-- ---- the check
+
+keep-few : {A : Type 0} (p : A → Bool) (l : List A) → length (keep p l) ≤ length l
+unfolding keep
+keep-few p [] = omega arith
+keep-few p (x ∷ l) = by-cases (p x) (λ e. rw e (omega (arith, keep-few p l))) (λ e. rw e (omega (arith, keep-few p l)))
+
+tables-few : (d : List Line) → tableLines d ≤ length d
+unfolding tableLines
+tables-few d = rw length-map (keep-few (λ l. eqb (l .rule) 0) d)
+
+after-small : (judge : ℕ → Verdict) (n : ℕ) (a : Answer) → n ≤ 2047 → Small (codeOf a) → Small (codeOf (after (scan judge 0 n) a))
+unfolding after
+after-small judge n a h s = go (scan judge 0 n) refl
+  where
+    go : (c : Scan) → scan judge 0 n ≡ c → Small (codeOf (after c a))
+    go (Passes m) e = s
+    go (Stops r place) e = let st = scan-stopped judge n r place .0 e in refused-small r place (omega (arith, st .counted, st .within))
+
+end-small : (t : Fact) (x : List ℕ) (n : ℕ) → n ≤ 2047 → Small (codeOf (endAnswer t x n))
+unfolding endAnswer
+end-small t x n h =
+    by-cases (same (lineAt x (n - 1) .fact) t)
+    (λ e. rw e (record { number = omega arith; place = omega arith; count = omega (arith, tables-few (linesOf x n), items-length (lineAt x) 0 n) }))
+    (λ e. rw e (refused-small End n h))
+
+derivation-small : (facts : List Fact) (t : Fact) (x : List ℕ) → Small (codeOf (derivationAnswer facts t x))
+unfolding derivationAnswer linesAnswer
+derivation-small facts t x =
+    by-cases (ltb 0 (length x) && sized 31 63457 (length x))
+    (λ e. let fits = sized-says 31 63457 (length x) (both (ltb 0 (length x)) (sized 31 63457 (length x)) e .1) in
+    let n : length x / 31 ≤ 2047 = omega arith in
+    rw e (after-small (formVerdict x) (length x / 31) _ n (after-small (stepVerdict facts x) (length x / 31) _ n (end-small t x (length x / 31) n))))
+    (λ e. rw e (refused-small Form 0 (omega arith)))
+
+pub check-small : (b : List ℕ) (t : Fact) (x : List ℕ) → Small (codeOf (checkAnswer b t x))
+unfolding checkAnswer tableAnswer
+check-small b t x = go (tableOf b) refl
+  where
+    fact-small : (v : Verdict) (a : Answer) → Small (codeOf a) → Small (codeOf (factAnswer v a))
+    fact-small Sound a s = unfold factAnswer in s
+    fact-small (Faulty r) a s = unfold factAnswer in (refused-small r 0 (omega arith))
+    go : (c : Table) → tableOf b ≡ c → Small (codeOf (tableAnswer c t x))
+    go (refused r place) e = refused-small r place (table-place b r place e)
+    go (accepted facts) e = fact-small (faultOf t) (derivationAnswer facts t x) (derivation-small facts t x)
+
+-- ---- the question
+
+answer-small : (limit : ℕ) (o : Option ℕ) → ((f : ℕ) → o ≡ some f → f ≤ 1024) → Small (codeOf (answerBy limit o))
+unfolding answerBy
+answer-small limit none h = record { number = omega arith; place = omega arith; count = omega arith }
+answer-small limit (some f) h =
+    by-cases (leb f limit)
+    (λ e. rw e (record { number = omega arith; place = omega arith; count = omega (arith, h f refl) }))
+    (λ e. rw e (record { number = omega arith; place = omega arith; count = omega (arith, h f refl) }))
+
+unless-small : (v : Verdict) (a : Answer) → Small (codeOf a) → Small (codeOf (unless v a))
+unfolding unless
+unless-small Sound a s = s
+unless-small (Faulty r) a s = refused-small r 0 (omega arith)
+
+pub question-small : (b : List ℕ) (t : Fact) (limit m : ℕ) → Small (codeOf (questionAnswer b t limit m))
+unfolding questionAnswer answerFrom answerOf
+question-small b t limit m = go (tableOf b) refl
+  where
+    go : (c : Table) → tableOf b ≡ c → Small (codeOf (answerFrom c t limit m))
+    go (refused r place) e = refused-small r place (table-place b r place e)
+    go (accepted facts) e =
+        unless-small (asked t limit m) (answerOf facts t limit)
+        (answer-small limit (fewest facts t) (λ f h. omega (arith, fewest-meant b t facts e f h .1, accepted-size b facts e .1)))

@@ -1,0 +1,5 @@
+pub mod Packed
+pub mod Refusals
+pub mod Demands
+pub mod Confirms
+pub mod Cases

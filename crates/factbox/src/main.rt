@@ -1,0 +1,19 @@
+// The program `factbox` (document 01, "Panel and program"): reads an input from standard input and prints its output.
+use libc::STDIN_FILENO;
+ghost use mathlib.Core.Path.{_≡_};
+ghost use lib.ListN.{length};
+
+// The most bytes of an input, and one more, so that too much is noticed.
+const INPUT_SPACE: usize = batch::INPUT_BYTES + 1;
+
+fn input_space() -> [u8; INPUT_SPACE]
+    ensures { λ r. ⌜ 32769 ≡ length r ⌝ }
+{
+    [0u8; INPUT_SPACE]
+}
+
+fn main() {
+    let mut input = input_space();
+    let size = io::read_full(STDIN_FILENO, &mut input);
+    printer::print_output(&input[..size]);
+}

@@ -1,0 +1,36 @@
+// What the program prints for an input (document 01, "Panel and program"), to standard output. What the bytes are is proved in
+// `batch`; here they are written, piece by piece.
+use batch::Input;
+use batch::REPLY_BYTES;
+use libc::STDOUT_FILENO;
+ghost use mathlib.Core.Path.{_≡_};
+ghost use lib.ListN.{length};
+
+// Memory for the longest reply.
+fn reply_space() -> [u8; REPLY_BYTES]
+    ensures { λ r. ⌜ 63473 ≡ length r ⌝ }
+{
+    [0u8; REPLY_BYTES]
+}
+
+// Prints the reply to each question. Only one reply at a time is in memory.
+fn print_replies(input: &[u8], table: usize, questions: usize) {
+    let mut out = reply_space();
+    let mut k = 0;
+    while k < questions {
+        let size = batch::reply(input, table, k, &mut out);
+        io::write_all(STDOUT_FILENO, &out[..size]);
+        k += 1;
+    }
+}
+
+// Prints the whole output for an input.
+pub fn print_output(input: &[u8]) {
+    match batch::layout(input) {
+        Input::Torn => {
+            let line = batch::refusal();
+            io::write_all(STDOUT_FILENO, &line);
+        }
+        Input::Parts { table, questions } => print_replies(input, table, questions),
+    }
+}

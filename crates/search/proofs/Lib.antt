@@ -1,0 +1,11 @@
+pub mod Laws
+pub mod Parts
+pub mod Marks
+pub mod Passes
+pub mod Steps
+pub mod Back
+pub mod Whole
+pub mod Moved
+pub mod Printing
+pub mod Places
+pub mod Answered
