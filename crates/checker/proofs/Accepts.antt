@@ -128,7 +128,7 @@ lines-say facts t x n c pos few size e =
     let end = end-says t x n c (b .1) in
     let laid : (i : ℕ) → i < n → laidOut 6 x (31 * i) ≡ true = λ i h. picked _ Form (rw zero-add at (scan-sound (formVerdict x) n 0 (a .0 .0) (a .0 .1) i h)) in
     let steps : (i : ℕ) → i < n → Justified Rule facts (linesOf x i) (lineAt x i) =
-        λ i h. justified-says facts (linesOf x i) (lineAt x i) (T-of (justified facts (linesOf x i) (lineAt x i)) (picked _ Step (rw zero-add at (scan-sound (stepVerdict facts x) n 0 (b .0 .0) (b .0 .1) i h)))) in
+    λ i h. justified-says facts (linesOf x i) (lineAt x i) (T-of (justified facts (linesOf x i) (lineAt x i)) (picked _ Step (rw zero-add at (scan-sound (stepVerdict facts x) n 0 (b .0 .0) (b .0 .1) i h)))) in
     let last : factOn (linesOf x n) n ≡ some t = fact-there x n n (λ z. omega arith) (omega arith) ∙ ap some (end .0) in
     record {
       derivation = linesOf x n;
@@ -173,7 +173,7 @@ lines-are facts t d wf pos few derives =
     let z = line 0 0 0 (fact 0 0 0) in
     let just : (i : ℕ) → i < n → Justified Rule facts (take i d) (getD d i z) = λ i h. justify-at Rule facts d [] z (derives .lines) i h in
     let back : (i : ℕ) → i < n → (laidOut 6 x (31 * i) ≡ true) × (lineAt x i ≡ getD d i z) =
-        λ i h. line-read-back d i z h (justified-below wf (rw length-take (omega arith)) (just i h)) in
+    λ i h. line-read-back d i z h (justified-below wf (rw length-take (omega arith)) (just i h)) in
     let all : linesOf x n ≡ d = items-listed (lineAt x) d 0 z (λ j h. rw zero-add (back j h .1)) in
     let upto : (i : ℕ) → i < n → linesOf x i ≡ take i d = λ i h. sym (take-items (lineAt x) n 0 i (omega arith)) ∙ ap (take i) all in
     let steps : (i : ℕ) → i < n → justified facts (linesOf x i) (lineAt x i) ≡ true = λ i h. of-T _ (rw (upto i h, back i h .1) (justified-is (just i h))) in
@@ -200,8 +200,7 @@ answer-of b facts t x e s = rw (e, s)
 pub check-accepts : (b : List ℕ) (facts : List Fact) (t : Fact) (x : List ℕ) (c : ℕ) → tableOf b ≡ accepted facts → faultOf t ≡ Sound
     → checkAnswer b t x ≡ Accepted c ↔ Judged facts t x c
 check-accepts b facts t x c e s =
-    let wf : (f : Fact) → f ∈ facts → T (wellFormed f) = λ f m. formed-in facts f (tableOf-accepted b facts .0 e .1 .formed) m in
-    (
+    let wf : (f : Fact) → f ∈ facts → T (wellFormed f) = λ f m. formed-in facts f (tableOf-accepted b facts .0 e .1 .formed) m in (
       λ a. derivation-says facts t x c (sym (answer-of b facts t x e s) ∙ a),
       λ j. answer-of b facts t x e s ∙ rw (j .bytes) (derivation-is facts t (j .derivation) wf (j .some-line) (j .short) (j .derives) ∙ ap Accepted (j .count)),
     )

@@ -19,8 +19,11 @@ ghost use Rattle.checker.specs.Holds.{rowFacts, Ascends, Cut};
 
 // The numbers of a full row; the fields and bytes of a derivation line, and the bytes of 2,047 lines.
 const ROW_NUMBERS: usize = 3072;
+
 const LINE_FIELDS: usize = 6;
+
 const LINE_BYTES: usize = 31;
+
 const DERIVATION_BYTES: usize = 63457;
 
 // How many of the row's n facts come before f.

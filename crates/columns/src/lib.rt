@@ -9,7 +9,9 @@ ghost use Rattle.columns.specs.Lines.{line, width, laidOut, over};
 
 // The byte before a number's first digit, the digit 0, and the end of a line.
 const SPACE: u8 = 32;
+
 const ZERO: u8 = 48;
+
 const LINE_END: u8 = 10;
 
 // What stands for a number where five bytes are no field: no field has it.
@@ -35,7 +37,10 @@ pub fn number_at(s: &[u8], at: usize) -> u32
     requires { ⌜ at + 5 ≤ length (now s) ⌝ }
     ensures { λ r. ⌜ r ≡ numberAt (now (s .entry)) at ⌝ }
 {
-    join(join(join(join(join(0, s[at]), s[at + 1]), s[at + 2]), s[at + 3]), s[at + 4])
+    join(
+        join(join(join(join(0, s[at]), s[at + 1]), s[at + 2]), s[at + 3]),
+        s[at + 4],
+    )
 }
 
 // The number so far with one column more, if the byte is the one that writing gives there.

@@ -112,7 +112,7 @@ module _ (b : List ℕ) (facts : List Fact) (t : Fact) (limit m : ℕ) (s : Soun
     λ e. fewest-refuted facts formed t .0 (no-none e),
     λ r. ⊎-elim
         (λ (h : (f : ℕ) × (fewest facts t ≡ some f) × Follows (questionAnswer b t limit m) f).
-          let z : none ≡ some (h .0) = sym (fewest-refuted facts formed t .1 r) ∙ h .1 in let k : _≡_ {A = ℕ} 0 1 = cc in absurd (omega arith))
+        let z : none ≡ some (h .0) = sym (fewest-refuted facts formed t .1 r) ∙ h .1 in let k : _≡_ {A = ℕ} 0 1 = cc in absurd (omega arith))
         (λ (h : (fewest facts t ≡ none) × SaysNo (questionAnswer b t limit m)). h .1) sound-fewest,
   )
 
@@ -175,7 +175,7 @@ module _ (b : List ℕ) (facts : List Fact) (t : Fact) (limit : ℕ) (entry exit
   given-none e part in-facts =
       let z = no-none b facts t limit (length entry) s (rw (← g .answer) e) in
       let no-derivation : (d : List Line) → Derives Rule part d t → ⊥ =
-          λ d h. let p = no-fewer {table = facts} in-facts h in fewest-none facts (formed b facts t limit (length entry) s) t .0 z (path-derivable (p .0)) in
+      λ d h. let p = no-fewer {table = facts} in-facts h in fewest-none facts (formed b facts t limit (length entry) s) t .0 z (path-derivable (p .0)) in
       (no-derivation, λ b′ s′ x c e. let j = checked b′ part t x c s′ (s .fact) .0 e in no-derivation (j .0) (j .4))
     where
       path-derivable : HasPath facts t → Derivable Rule facts t
@@ -183,7 +183,7 @@ module _ (b : List ℕ) (facts : List Fact) (t : Fact) (limit : ℕ) (entry exit
 
   given-printed : (f : ℕ) → YesWith a f
       → (d : List Line) × (exit ≡ derivationBytes d ++ drop (length (derivationBytes d)) entry) × (suc (length d) ≡ f + f) × (tableLines d ≡ f)
-          × InOrder d × Derives Rule facts d t × AcceptedWith (checkAnswer b t (derivationBytes d)) f
+      × InOrder d × Derives Rule facts d t × AcceptedWith (checkAnswer b t (derivationBytes d)) f
   given-printed f h =
       let is = sound-is b facts t limit (length entry) s in
       let yes : questionAnswer b t limit (length entry) ≡ Yes f = sym (g .answer) ∙ yes-of a f h in

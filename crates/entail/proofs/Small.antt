@@ -139,6 +139,7 @@ check-small b t x = go (tableOf b) refl
     fact-small : (v : Verdict) (a : Answer) → Small (codeOf a) → Small (codeOf (factAnswer v a))
     fact-small Sound a s = unfold factAnswer in s
     fact-small (Faulty r) a s = unfold factAnswer in (refused-small r 0 (omega arith))
+
     go : (c : Table) → tableOf b ≡ c → Small (codeOf (tableAnswer c t x))
     go (refused r place) e = refused-small r place (table-place b r place e)
     go (accepted facts) e = fact-small (faultOf t) (derivationAnswer facts t x) (derivation-small facts t x)

@@ -133,7 +133,7 @@ pub record Demand-3 : Type 1 where
   pub printed : (b : List ℕ) (facts : List Fact) (t : Fact) (limit : ℕ) (entry exit : List ℕ) (a : Answer) (f : ℕ)
       → SoundInput b facts t limit (length entry) → Answered b t limit entry exit a → YesWith a f
       → (d : List Line) × (exit ≡ derivationBytes d ++ drop (length (derivationBytes d)) entry) × (suc (length d) ≡ f + f) × (tableLines d ≡ f)
-          × InOrder d × Derives Rule facts d t × AcceptedWith (checkAnswer b t (derivationBytes d)) f
+      × InOrder d × Derives Rule facts d t × AcceptedWith (checkAnswer b t (derivationBytes d)) f
   -- "Where it says no, no derivation of the fact exists and the check accepts none, over the table or over any accepted one whose facts all
   -- stand in it."
   pub none : (b : List ℕ) (facts : List Fact) (t : Fact) (limit : ℕ) (entry exit : List ℕ) (a : Answer)

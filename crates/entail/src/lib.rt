@@ -9,17 +9,18 @@ ghost use Rattle.facts.specs.Answers.{codeOf};
 ghost use Rattle.table.specs.Tables.{rowOf, tableBytes, tableOf, tableOfRow, settled, filled};
 ghost use Rattle.checker.specs.Check.{checkAnswer};
 ghost use Rattle.search.specs.Question.{questionAnswer, outputAfter};
-ghost use Rattle.entail.specs.Packed.{unpacked, Small};
+ghost use Rattle.entail.specs.Packed.{packed, Small};
 ghost use Rattle.entail.specs.Confirms.{Confirms};
 
 // The bits of a place and of a count begin here.
 const PLACE: u64 = 256;
+
 const COUNT: u64 = 4294967296;
 
 // An answer in one number.
 fn pack(a: Answer) -> u64
     requires { ⌜ Small (codeOf a) ⌝ }
-    ensures { λ r. ⌜ unpacked r ≡ codeOf a ⌝ }
+    ensures { λ r. ⌜ r ≡ packed (codeOf a) ⌝ }
 {
     let c = facts::code_of(a);
     c.number as u64 + PLACE * c.place as u64 + COUNT * c.count as u64
@@ -45,7 +46,7 @@ pub extern "C" fn factbox_question(
     limit: u32,
     output: &mut [u8],
 ) -> u64
-    ensures answer { λ r. ⌜ unpacked r ≡ codeOf (questionAnswer (now (table .entry)) (fact subject predicate object) limit (length (now (output .entry)))) ⌝ }
+    ensures answer { λ r. ⌜ r ≡ packed (codeOf (questionAnswer (now (table .entry)) (fact subject predicate object) limit (length (now (output .entry))))) ⌝ }
     ensures output { λ _. ⌜ now (output .exit) ≡ outputAfter (now (table .entry)) (fact subject predicate object) limit (now (output .entry)) ⌝ }
 {
     pack(search::question(table, fact_of(subject, predicate, object), limit, output))
@@ -60,7 +61,7 @@ pub extern "C" fn factbox_check(
     object: u32,
     derivation: &[u8],
 ) -> u64
-    ensures { λ r. ⌜ unpacked r ≡ codeOf (checkAnswer (now (table .entry)) (fact subject predicate object) (now (derivation .entry))) ⌝ }
+    ensures { λ r. ⌜ r ≡ packed (codeOf (checkAnswer (now (table .entry)) (fact subject predicate object) (now (derivation .entry)))) ⌝ }
 {
     pack(checker::check(table, fact_of(subject, predicate, object), derivation))
 }
@@ -68,7 +69,7 @@ pub extern "C" fn factbox_check(
 // Reads a table into a row of three numbers a fact.
 #[no_mangle]
 pub extern "C" fn factbox_read(table: &[u8], row: &mut [u32]) -> u64
-    ensures answer { λ r. ⌜ unpacked r ≡ codeOf (settled rowOf (tableOf (now (table .entry))) (length (now (row .entry)))) ⌝ }
+    ensures answer { λ r. ⌜ r ≡ packed (codeOf (settled rowOf (tableOf (now (table .entry))) (length (now (row .entry))))) ⌝ }
     ensures row { λ _. ⌜ now (row .exit) ≡ filled rowOf (tableOf (now (table .entry))) (now (row .entry)) ⌝ }
 {
     pack(table::read(table, row))
@@ -77,7 +78,7 @@ pub extern "C" fn factbox_read(table: &[u8], row: &mut [u32]) -> u64
 // Writes the table of a row's facts.
 #[no_mangle]
 pub extern "C" fn factbox_write(row: &[u32], output: &mut [u8]) -> u64
-    ensures answer { λ r. ⌜ unpacked r ≡ codeOf (settled tableBytes (tableOfRow (now (row .entry))) (length (now (output .entry)))) ⌝ }
+    ensures answer { λ r. ⌜ r ≡ packed (codeOf (settled tableBytes (tableOfRow (now (row .entry))) (length (now (output .entry))))) ⌝ }
     ensures bytes { λ _. ⌜ now (output .exit) ≡ filled tableBytes (tableOfRow (now (row .entry))) (now (output .entry)) ⌝ }
 {
     pack(table::write(row, output))

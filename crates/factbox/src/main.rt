@@ -15,5 +15,5 @@ fn input_space() -> [u8; INPUT_SPACE]
 fn main() {
     let mut input = input_space();
     let size = io::read_full(STDIN_FILENO, &mut input);
-    printer::print_output(&input[..size]);
+    let _printed = printer::print_output(&input[..size]);
 }

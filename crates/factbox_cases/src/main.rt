@@ -20,7 +20,7 @@ fn input_space() -> [u8; INPUT_SPACE]
 // Reads one input into memory of its length and prints its output.
 fn run_input(input: &mut [u8]) {
     let size = io::read_full(STDIN_FILENO, input);
-    printer::print_output(&input[..size]);
+    let _printed = printer::print_output(&input[..size]);
 }
 
 // Runs the next input; false where none is left.

@@ -4,7 +4,10 @@ use batch::Input;
 use batch::REPLY_BYTES;
 use libc::STDOUT_FILENO;
 ghost use mathlib.Core.Path.{_≡_};
+ghost use Prim.Native.Nat.{_≤_};
 ghost use lib.ListN.{length};
+ghost use Rattle.batch.specs.Output.{outputOf};
+ghost use Rattle.printer.specs.Replies.{replies};
 
 // Memory for the longest reply.
 fn reply_space() -> [u8; REPLY_BYTES]
@@ -13,23 +16,32 @@ fn reply_space() -> [u8; REPLY_BYTES]
     [0u8; REPLY_BYTES]
 }
 
-// Prints the reply to each question. Only one reply at a time is in memory.
-fn print_replies(input: &[u8], table: usize, questions: usize) {
+// Prints the reply to each question, and gives their length. Only one reply at a time is in memory.
+fn print_replies(input: &[u8], table: usize, questions: usize) -> usize
+    requires { ⌜ questions ≤ 2048 ⌝ }
+    ensures { λ r. ⌜ r ≡ length (replies (now (input .entry)) table questions) ⌝ }
+{
     let mut out = reply_space();
+    let mut printed = 0;
     let mut k = 0;
     while k < questions {
         let size = batch::reply(input, table, k, &mut out);
         io::write_all(STDOUT_FILENO, &out[..size]);
+        printed += size;
         k += 1;
     }
+    printed
 }
 
-// Prints the whole output for an input.
-pub fn print_output(input: &[u8]) {
+// Prints the whole output for an input, and gives its length.
+pub fn print_output(input: &[u8]) -> usize
+    ensures { λ r. ⌜ r ≡ length (outputOf (now (input .entry))) ⌝ }
+{
     match batch::layout(input) {
         Input::Torn => {
             let line = batch::refusal();
             io::write_all(STDOUT_FILENO, &line);
+            line.len()
         }
         Input::Parts { table, questions } => print_replies(input, table, questions),
     }

@@ -189,7 +189,8 @@ module _ (table : List ℕ) (t : Fact) (limit : ℕ) (entry : List ℕ) where
     unfolding questionAnswer answerFrom outputAfter written unless
     answered-refused r e = answered table t limit entry entry (Refused r 0) (rw (is, e)) (rw (is, e))
 
-    pub answered-settled : (exit : List ℕ) (r : Answer) → asked t limit (length entry) ≡ Sound → r ≡ answerOf facts t limit → exit ≡ written r (printedFor facts t) entry → Answered table t limit entry exit r
+    pub answered-settled : (exit : List ℕ) (r : Answer) → asked t limit (length entry) ≡ Sound → r ≡ answerOf facts t limit → exit ≡ written r (printedFor facts t) entry
+        → Answered table t limit entry exit r
     unfolding questionAnswer answerFrom outputAfter unless printedFrom
     answered-settled exit r e a o = answered table t limit entry exit r (rw (is, e) a) (o ∙ rw (is, e, a))
 

@@ -141,7 +141,8 @@ module _ (row : List ℕ) (n w : ℕ) (t : Fact) (f : ℕ) (s : State) (m : Met 
   comes-is (suc k) j e h g =
       let is : at j ∈ S = at-place (fact 0 0 0) S j (omega (arith, items-length (rowFact row) 0 n)) in
       let q = same-first (suc k) (at j) (omega arith) (omega arith) is (λ i p. omega (arith, m .lowest (at j) i p g)) in
-      rw (eqb·suc-zero k, ← at-fact row n j h, q) (both _ _ (λ x. go _ refl (least-answer _ 0 (length S)) x) (λ x. let r = leads-some _ _ S (fact 0 0 0) k j x in rw (r .1) (lt→ltb (r .0) n (omega (arith, r .2, items-length (rowFact row) 0 n)))))
+      rw (eqb·suc-zero k, ← at-fact row n j h, q) (both _ _ (λ x. go _ refl (least-answer _ 0 (length S)) x) (λ x. let r = leads-some _ _ S (fact 0 0 0) k j x in rw (r .1)
+      (lt→ltb (r .0) n (omega (arith, r .2, items-length (rowFact row) 0 n)))))
     where
       go : (o : Option ℕ) → least (leads (start w t) (next w) S (fact 0 0 0) (suc k) (at j)) 0 (length S) ≡ o → Answer (leads (start w t) (next w) S (fact 0 0 0) (suc k) (at j)) 0 (length S) o
           → T (ltb (orElse n o) n) → T (arrives (start w t) (next w) S (suc (suc k)) (at j))
@@ -208,7 +209,8 @@ module _ (row : List ℕ) (n w : ℕ) (t : Fact) (f : ℕ) (s : State) (m : Met 
           low = b .low;
           long = length-set path k (r .0) ∙ d .long;
           here = getD-set-same path k (r .0) 0 (omega (arith, d .short, d .long));
-          whole = rw u (sym (append-assoc (back (start w t) (next w) S (fact 0 0 0) (suc k) (r .0)) (j ∷ []) (drop (suc (suc k)) path)) ∙ ap (λ (y : List ℕ). y ++ drop (suc (suc k)) path) (sym (b .back)) ∙ d .whole);
+          whole = rw u (sym (append-assoc (back (start w t) (next w) S (fact 0 0 0) (suc k) (r .0)) (j ∷ []) (drop (suc (suc k)) path)) ∙ ap (λ (y : List ℕ). y ++ drop (suc (suc k)) path)
+              (sym (b .back)) ∙ d .whole);
         }
 
     pub reading-step : (i k j j′ : ℕ) (path : List ℕ) → i ≡ suc k → f ≤ length path₀ → Reading i j path → j′ ≡ beforeOf row n w (s .mark) i (rowFact row j) → Reading k j′ (set path k j′)

@@ -163,4 +163,14 @@ pub unmarked : (i : ℕ) → markAt empty i ≡ 0
 unmarked i = zeros-at 1024 i
 
 pub empty-ordered : (n : ℕ) → Ordered n empty
-empty-ordered n = record { marks = refl; places = refl; all = sym (zeros-marked 1024); queued = λ q l. absurd (omega arith); listed = λ i l. absurd (omega (arith, unmarked i)); rising = λ p q l u. absurd (omega arith) }
+empty-ordered n = record {
+  marks = refl;
+  places = refl;
+  all = sym (zeros-marked 1024);
+  queued = λ q l. absurd (omega arith);
+  listed = λ i l. absurd (omega (
+    arith,
+    unmarked i,
+  ));
+  rising = λ p q l u. absurd (omega arith);
+}

@@ -120,7 +120,8 @@ module _ (row : List ℕ) (n : ℕ) (t : Fact) (before after : List ℕ) {r : Fo
       pub print-placed : Placed row n f after′
       print-placed =
           let c = found-chosen in
-          placed (printPlaces (rowFact row) (c .places)) after′ (drop f after) found-some (order-long (rowFact row) (c .places) ∙ c .count) ordered (λ i m. found-inside i (order-in (rowFact row) (c .places) m))
+          placed (printPlaces (rowFact row) (c .places)) after′ (drop f after) found-some (order-long (rowFact row) (c .places) ∙ c .count) ordered (λ i m. found-inside i (order-in (rowFact row)
+          (c .places) m))
 
       -- the facts at the places are those of the chosen path in printed order
       pub print-facts : factsAt row after′ f ≡ printOrder (map (factIn (factsOf row n)) (found-chosen .places))

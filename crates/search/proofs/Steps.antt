@@ -114,7 +114,8 @@ module _ (row : List ℕ) (n w : ℕ) (mark queue : List ℕ) (m : ℕ) where
     comes-says : (b : Fact) → 0 < m → T (comesBy row n w mark t m b) → (i : ℕ) × (i < n) × T (precedes row n w mark m b i)
     comes-says b s x = go (least (precedes row n w mark m b) 0 n) refl (least-answer (precedes row n w mark m b) 0 n) (rw (ne-eqb m 0 (λ e. omega arith)) at x)
       where
-        go : (o : Option ℕ) → least (precedes row n w mark m b) 0 n ≡ o → Answer (precedes row n w mark m b) 0 n o → T (ltb (orElse n (least (precedes row n w mark m b) 0 n)) n) → (i : ℕ) × (i < n) × T (precedes row n w mark m b i)
+        go : (o : Option ℕ) → least (precedes row n w mark m b) 0 n ≡ o → Answer (precedes row n w mark m b) 0 n o → T (ltb (orElse n (least (precedes row n w mark m b) 0 n)) n)
+            → (i : ℕ) × (i < n) × T (precedes row n w mark m b i)
         go none e a y = let z = ltb-yes {a = n} {b = n} (rw e at y) in absurd (omega arith)
         go (some i) e a y = (i, omega (arith, least-below (precedes row n w mark m b) 0 n i e), a .1)
 

@@ -127,7 +127,8 @@ module _ (row : List ℕ) (n : ℕ) (t : Fact) where
   answers-range f k s u places after r h l m pos less g =
       let on = eq-eqb (t .predicate) 5 h in
       answers 4 f s places after r (rw on (List·Memᴰ·tail (List·Memᴰ·head refl))) l g (λ e. absurd (omega arith))
-      (λ p v a. ⊎-elim (λ e. subst (Bound f) (sym e) (other-low 3 f k u m (⊎-elim (λ z. inl z) (λ z. inr (le-of-lt z)) less) p)) (λ e. subst (Bound f) (sym e) (bound-of 4 f s l f (omega arith) p)) (two-ways h a))
+      (λ p v a. ⊎-elim (λ e. subst (Bound f) (sym e) (other-low 3 f k u m (⊎-elim (λ z. inl z) (λ z. inr (le-of-lt z)) less) p)) (λ e. subst (Bound f) (sym e) (bound-of 4 f s l f (omega arith) p))
+      (two-ways h a))
       (λ y. way-range (factsOf row n) t f on (λ a p q. ⊎-elim (λ z. bound-none 3 k u m z a f p q) (λ z. let b = bound-of 3 k u m (suc f) z (omega arith) a f p q in omega arith) less) (y .path) (y .ends))
 
   pub answers-dom : (f k : ℕ) (s u : State) (places after : List ℕ) (r : Found) → t .predicate ≡ 5 → Left row n 3 t f s → Left row n 4 t k u

@@ -513,13 +513,13 @@ fn answer(row: &[u32], n: usize, w: u32, t: Fact, r: Reached, path: &mut [u16]) 
     requires { ⌜ Given (now row) n w t (r .facts) (r .state) (length (now path)) ⌝ }
     ensures { λ g. ⌜ Gives (now (row .entry)) n w t (r .facts) (now (path .entry)) (now (path .exit)) g ⌝ }
 {
-    let f = r.facts;
-    if f == 0 {
+    let facts = r.facts;
+    if facts == 0 {
         return Found::Nothing;
     }
     let s = r.state;
-    trace(row, n, w, t, f, s, path);
-    Found::Facts(f)
+    trace(row, n, w, t, facts, s, path);
+    Found::Facts(facts)
 }
 
 // For a type two searches: the way by range where it is strictly shorter, and else the way by dom.
@@ -729,12 +729,13 @@ fn settle(row: &[u32], n: usize, t: Fact, limit: u32, output: &mut [u8]) -> Answ
     match shortest(row, n, t, &mut path) {
         Found::Nothing => Answer::No,
         Found::Facts(f) => {
-            if (limit as usize) < f {
-                return Answer::Long(f as u32);
+            let count = f as u32;
+            if limit < count {
+                return Answer::Long(count);
             }
             print_order(row, n, f, &mut path);
             print(row, n, f, &path, output);
-            Answer::Yes(f as u32)
+            Answer::Yes(count)
         }
     }
 }

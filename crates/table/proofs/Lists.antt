@@ -66,8 +66,7 @@ pub earns-none : (laid : Bool) (at : ℕ → Fact) (i : ℕ) → firstEarned (ea
 unfolding firstEarned earns above judged
 earns-none false at i = (λ e. let z : _≡_ {A = ℕ} 0 1 = cc in absurd (omega arith), λ h. let z : _≡_ {A = ℕ} 0 1 = cc (h .0) in absurd (omega arith))
 earns-none true at i =
-    let j = judged-line at i (at (i - 1)) (λ h. refl) in
-    (
+    let j = judged-line at i (at (i - 1)) (λ h. refl) in (
       λ e. let p = or-sound (faultOf (at i)) _ (sym j ∙ e) in (refl, fault-none (at i) .0 (p .0), in-order (above at i) Order (p .1)),
       λ h. j ∙ rw (fault-none (at i) .1 (h .1), h .2) (unfold orElse in refl),
     )
@@ -89,9 +88,9 @@ ascends-from at (suc (suc n)) i h =
     let s : i + 1 ≡ suc i = omega arith in
     yes-and (before (at i) (at (suc i))) _ (rw (add-zero, s) at (h 0 (omega arith)))
     (ascends-from at (suc n) (suc i) (λ j k.
-      let t : suc i + j ≡ i + suc j = omega arith in
-      let u : suc i + suc j ≡ i + suc (suc j) = omega arith in
-      rw (t, u) (h (suc j) (omega arith))))
+    let t : suc i + j ≡ i + suc j = omega arith in
+    let u : suc i + suc j ≡ i + suc (suc j) = omega arith in
+    rw (t, u) (h (suc j) (omega arith))))
 
 pub formed-at : (facts : List Fact) (i : ℕ) (d : Fact) → T (allFormed facts) → i < length facts → T (wellFormed (getD facts i d))
 unfolding allFormed
@@ -117,14 +116,13 @@ module _ (laid : ℕ → Bool) (at : ℕ → Fact) where
   unfolding above
   passes-says n m e =
       let sound : (i : ℕ) → i < n → (laid i ≡ true) × T (wellFormed (at i)) × (above at i ≡ true) =
-          λ i h. earns-none (laid i) at i .0 (rw zero-add at (scan-sound Judge n 0 m e i h)) in
-      (
+      λ i h. earns-none (laid i) at i .0 (rw zero-add at (scan-sound Judge n 0 m e i h)) in (
         λ i h. sound i h .0,
         formed-from at n 0 (λ j h. rw zero-add (sound j h .1)),
         ascends-from at n 0 (λ j h.
-          let p = sound (suc j) h .2 in
-          let k : suc j - 1 ≡ j = omega arith in
-          rw (zero-add, zero-add) (T-of _ (rw (ne-eqb (suc j) 0 (λ q. omega arith), k) at p))),
+            let p = sound (suc j) h .2 in
+            let k : suc j - 1 ≡ j = omega arith in
+            rw (zero-add, zero-add) (T-of _ (rw (ne-eqb (suc j) 0 (λ q. omega arith), k) at p))),
       )
 
   -- facts that are well-formed and ascending pass, where each stands in its place on a line that is laid out
@@ -133,8 +131,7 @@ module _ (laid : ℕ → Bool) (at : ℕ → Fact) where
       → (scan Judge 0 (length facts) ≡ Passes (length facts)) × (itemsFrom at 0 (length facts) ≡ facts)
   unfolding above
   says-passes facts d formed ascends placed =
-      let above-at : (i : ℕ) → i < length facts → above at i ≡ true = λ i h. go i h in
-      (
+      let above-at : (i : ℕ) → i < length facts → above at i ≡ true = λ i h. go i h in (
         rw zero-add at (scan-all Judge (length facts) 0 (λ j h. rw zero-add (earns-none (laid j) at j .1 (placed j h .0, rw (placed j h .1) (formed-at facts j d formed h), above-at j h)))),
         items-listed at facts 0 d (λ j h. rw zero-add (placed j h .1)),
       )

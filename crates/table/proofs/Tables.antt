@@ -72,9 +72,10 @@ accepted-says b facts e =
     let size = accepted-size b facts e in
     let p = passes-size 16 16384 (length b) (lineVerdict b) (length facts) (accepted-scan b facts e) in
     let all : itemsFrom (lineFact b) 0 (length facts) ≡ facts = sym (loaded-all b (length facts) (accepted-scan b facts e)) ∙ loaded-accepted b facts e in
-    let s = passes-says (λ i. laidOut 3 b (16 * i)) (lineFact b) (length facts) (length facts) (rw (← p .2) at (p .3)) in
-    (lines-written 3 terms b (lineFact b) (numbers-terms b) (length facts) (length facts) 0 (size .0) (zero-add (length facts)) (s .0) ∙ rw all,
-      record { formed = rw all at (s .1); ascends = rw all at (s .2); few = size .1 })
+    let s = passes-says (λ i. laidOut 3 b (16 * i)) (lineFact b) (length facts) (length facts) (rw (← p .2) at (p .3)) in (
+      lines-written 3 terms b (lineFact b) (numbers-terms b) (length facts) (length facts) 0 (size .0) (zero-add (length facts)) (s .0) ∙ rw all,
+      record { formed = rw all at (s .1); ascends = rw all at (s .2); few = size .1 },
+    )
 
 accepted-is : (facts : List Fact) → tables.Sound facts → tableOf (tableBytes facts) ≡ accepted facts
 unfolding tableOf tableScan lineVerdict meant
@@ -95,9 +96,10 @@ row-says row facts e =
     let size = row-size row facts e in
     let p = passes-size 3 3072 (length row) (rowVerdict row) (length facts) (row-scan row facts e) in
     let all = row-facts row facts e in
-    let s = passes-says (λ i. true) (rowFact row) (length facts) (length facts) (rw (← p .2) at (p .3)) in
-    (rows-numbers row (length facts) (length facts) 0 (size .0) (zero-add (length facts)) ∙ rw all,
-      record { formed = rw all at (s .1); ascends = rw all at (s .2); few = size .1 })
+    let s = passes-says (λ i. true) (rowFact row) (length facts) (length facts) (rw (← p .2) at (p .3)) in (
+      rows-numbers row (length facts) (length facts) 0 (size .0) (zero-add (length facts)) ∙ rw all,
+      record { formed = rw all at (s .1); ascends = rw all at (s .2); few = size .1 },
+    )
 
 row-is : (facts : List Fact) → tables.Sound facts → tableOfRow (rowOf facts) ≡ accepted facts
 unfolding tableOfRow rowScan rowVerdict meant

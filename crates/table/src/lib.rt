@@ -15,9 +15,13 @@ ghost use Rattle.table.specs.Judged.{judged, NextLine, LineJudged};
 
 // The fields, bytes and numbers of a fact, and the most of each in a table.
 const FIELDS: usize = 3;
+
 const LINE_BYTES: usize = 16;
+
 const LINE_END: u8 = 10;
+
 const TABLE_BYTES: usize = 16384;
+
 const ROW_NUMBERS: usize = 3072;
 
 // How far a scan of lines or facts gets: past all of them, or to the first refusal and its place.
@@ -74,7 +78,10 @@ fn judge_line(bytes: &[u8], i: usize, last: Fact) -> Judged
         };
     }
     let v = judge(i == 0, last, f);
-    Judged { verdict: v, fact: f }
+    Judged {
+        verdict: v,
+        fact: f,
+    }
 }
 
 // Puts a fact's three numbers at a place of a row.

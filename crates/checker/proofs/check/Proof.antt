@@ -39,7 +39,7 @@ cast-check-derivation : tie.Need-cast-check-derivation
 cast-check-derivation c = search needs
 
 check-derivation-requires : tie.Need-check-derivation-requires
-check-derivation-requires c κs = 
+check-derivation-requires c κs =
     let b = now (c .before .before .before .before .before .before .before .before .before .before .before .before .args .table) in
     let p = scan-passes (tableOf b) (c .before .before .before .before .before .n .given .0 .0) (sym (c .before .before .before .before .before .before .before .before .load .ensures .0) ∙ c .before .before .before .before .before .n .given .1) in
     let l = c .before .before .before .before .before .before .before .before .load in
@@ -51,7 +51,7 @@ returns c = let b = now (c .before .before .before .before .before .before .befo
 
 returns-2 : tie.Need-returns-2
 unfolding checkAnswer tableAnswer factAnswer
-returns-2 c = 
+returns-2 c =
     let b = now (c .before .before .before .before .before .before .before .before .before .before .before .before .args .table) in
     let p = scan-passes (tableOf b) (c .before .before .before .before .before .n .given .0 .0) (sym (c .before .before .before .before .before .before .before .before .load .ensures .0) ∙ c .before .before .before .before .before .n .given .1) in
     let e = sym (c .before .before .before .fault .ensures) ∙ c .before .r2 .given .1 in
@@ -59,7 +59,7 @@ returns-2 c =
 
 returns-3 : tie.Need-returns-3
 unfolding checkAnswer tableAnswer factAnswer
-returns-3 c = 
+returns-3 c =
     let b = now (c .before .before .before .before .before .before .before .before .before .before .before .before .before .args .table) in
     let p = scan-passes (tableOf b) (c .before .before .before .before .before .before .n .given .0 .0) (sym (c .before .before .before .before .before .before .before .before .before .load .ensures .0) ∙ c .before .before .before .before .before .before .n .given .1) in
     let l = c .before .before .before .before .before .before .before .before .before .load in

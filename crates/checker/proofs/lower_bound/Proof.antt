@@ -16,7 +16,7 @@ use Rattle.checker.proofs.lower_bound.Statement.{statement}
 use Rattle.checker.proofs.lower_bound.Tie as tie
 
 abbrev Inv-loop : tie.InvT-loop
-Inv-loop row n f lo₀ hi₀ lo hi = 
+Inv-loop row n f lo₀ hi₀ lo hi =
     (lo ≤ hi) × (hi ≤ n) × ((i : ℕ) → i < lo → T (before (rowFact row i) f)) × ((i : ℕ) → hi ≤ i → i < n → T (before (rowFact row i) f) → ⊥)
 
 abbrev μ-loop : tie.MeasureT-loop
@@ -44,7 +44,7 @@ loop-less : tie.Need-loop-less Inv-loop μ-loop
 loop-less c = omega arith
 
 loop-again : tie.Need-loop-again Inv-loop μ-loop
-loop-again c = 
+loop-again c =
     let s = c .before .before .before .before .before .before in
     let l = c .before .before .before .before .loop in
     let row = now (s .args .row) in
@@ -56,7 +56,7 @@ loop-less-2 : tie.Need-loop-less-2 Inv-loop μ-loop
 loop-less-2 c = omega arith
 
 loop-again-2 : tie.Need-loop-again-2 Inv-loop μ-loop
-loop-again-2 c = 
+loop-again-2 c =
     let s = c .before .before .before .before .before .before in
     let l = c .before .before .before .before .loop in
     let row = now (s .args .row) in

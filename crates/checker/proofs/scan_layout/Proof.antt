@@ -37,7 +37,7 @@ cast-t9 c = omega arith
 
 returns : tie.Need-returns Inv-loop μ-loop
 unfolding formVerdict
-returns c = 
+returns c =
     let l = c .before .before .before .loop in
     let x = now (c .before .before .before .before .before .args .derivation) in
     let e : laidOut 6 x (31 * l .i) ≡ false = sym (c .before .is-laid-out .ensures) ∙ not-true _ (c .if1 .taken) in
@@ -51,7 +51,7 @@ loop-less c = omega arith
 
 loop-again : tie.Need-loop-again Inv-loop μ-loop
 unfolding formVerdict
-loop-again c = 
+loop-again c =
     let l = c .before .before .before .loop in
     let x = now (c .before .before .before .before .before .args .derivation) in
     let e : laidOut 6 x (31 * l .i) ≡ true = sym (c .before .is-laid-out .ensures) ∙ not-false _ (c .if1 .left) in

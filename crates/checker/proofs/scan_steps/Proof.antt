@@ -17,7 +17,7 @@ use Rattle.checker.proofs.scan_steps.Statement.{statement}
 use Rattle.checker.proofs.scan_steps.Tie as tie
 
 abbrev Inv-loop : tie.InvT-loop
-Inv-loop row n derivation lines i₀ i = 
+Inv-loop row n derivation lines i₀ i =
     (i ≤ lines) × (scan (stepVerdict (rowFacts row n) derivation) 0 lines ≡ scan (stepVerdict (rowFacts row n) derivation) i (lines - i))
 
 abbrev μ-loop : tie.MeasureT-loop
@@ -37,7 +37,7 @@ cast-t10 c = omega arith
 
 returns : tie.Need-returns Inv-loop μ-loop
 unfolding stepVerdict
-returns c = 
+returns c =
     let l = c .before .before .before .loop in
     let s = c .before .before .before .before .before .before in
     let x = now (s .args .derivation) in
@@ -53,7 +53,7 @@ loop-less c = omega arith
 
 loop-again : tie.Need-loop-again Inv-loop μ-loop
 unfolding stepVerdict
-loop-again c = 
+loop-again c =
     let l = c .before .before .before .loop in
     let s = c .before .before .before .before .before .before in
     let x = now (s .args .derivation) in

@@ -57,7 +57,7 @@ next-column-requires-2 : tie.Need-next-column-requires-2
 next-column-requires-2 c κs = let u = first (c .before) in omega (arith, u .number, u .small)
 
 returns-2 : tie.Need-returns-2
-returns-2 c = let s = c .before .before .before .before .before .before .before in let u = first (c .before .before .before ) in no-field (now (s .args .s)) (s .args .at) (λ r. not-right (says₁ (now (s .args .s)) (s .args .at)) _ _ (omega (arith, u .small)) (rw (← u .number) (c .before .next-column2 .ensures)) (c .if2 .taken) (r .c₂))
+returns-2 c = let s = c .before .before .before .before .before .before .before in let u = first (c .before .before .before) in no-field (now (s .args .s)) (s .args .at) (λ r. not-right (says₁ (now (s .args .s)) (s .args .at)) _ _ (omega (arith, u .small)) (rw (← u .number) (c .before .next-column2 .ensures)) (c .if2 .taken) (r .c₂))
 
 add-next-column-2 : tie.Need-add-next-column-2
 add-next-column-2 c = search needs
@@ -69,7 +69,7 @@ next-column-requires-3 : tie.Need-next-column-requires-3
 next-column-requires-3 c κs = let u = second (c .before) in omega (arith, u .number, u .small)
 
 returns-3 : tie.Need-returns-3
-returns-3 c = let s = c .before .before .before .before .before .before .before .before .before .before in let u = second (c .before .before .before ) in no-field (now (s .args .s)) (s .args .at) (λ r. not-right (says₂ (now (s .args .s)) (s .args .at)) _ _ (omega (arith, u .small)) (rw (← u .number) (c .before .next-column3 .ensures)) (c .if3 .taken) (r .c₃))
+returns-3 c = let s = c .before .before .before .before .before .before .before .before .before .before in let u = second (c .before .before .before) in no-field (now (s .args .s)) (s .args .at) (λ r. not-right (says₂ (now (s .args .s)) (s .args .at)) _ _ (omega (arith, u .small)) (rw (← u .number) (c .before .next-column3 .ensures)) (c .if3 .taken) (r .c₃))
 
 add-next-column-3 : tie.Need-add-next-column-3
 add-next-column-3 c = search needs
@@ -81,7 +81,7 @@ next-column-requires-4 : tie.Need-next-column-requires-4
 next-column-requires-4 c κs = let u = third (c .before) in omega (arith, u .number, u .small)
 
 returns-4 : tie.Need-returns-4
-returns-4 c = let s = c .before .before .before .before .before .before .before .before .before .before .before .before .before in let u = third (c .before .before .before ) in no-field (now (s .args .s)) (s .args .at) (λ r. not-right (says₃ (now (s .args .s)) (s .args .at)) _ _ (omega (arith, u .small)) (rw (← u .number) (c .before .next-column4 .ensures)) (c .if4 .taken) (r .c₄))
+returns-4 c = let s = c .before .before .before .before .before .before .before .before .before .before .before .before .before in let u = third (c .before .before .before) in no-field (now (s .args .s)) (s .args .at) (λ r. not-right (says₃ (now (s .args .s)) (s .args .at)) _ _ (omega (arith, u .small)) (rw (← u .number) (c .before .next-column4 .ensures)) (c .if4 .taken) (r .c₄))
 
 add-last-column : tie.Need-add-last-column
 add-last-column c = search needs
@@ -93,19 +93,19 @@ last-column-requires : tie.Need-last-column-requires
 last-column-requires c κs = let u = fourth (c .before) in omega (arith, u .number, u .small)
 
 returns-5 : tie.Need-returns-5
-returns-5 c = 
+returns-5 c =
     let s = c .before .before .before .before .before .before .before .before .before .before .before .before .before .before .before in
     let e = c .before .before in
     let u₄ = fourth e in
-    let u₃ = third (e .before .before .before ) in
-    let u₂ = second (e .before .before .before .before .before .before ) in
-    let u₁ = first (e .before .before .before .before .before .before .before .before .before ) in
+    let u₃ = third (e .before .before .before) in
+    let u₂ = second (e .before .before .before .before .before .before) in
+    let u₁ = first (e .before .before .before .before .before .before .before .before .before) in
     let n = says₄ (now (s .args .s)) (s .args .at) in
     let b = getD (now (s .args .s)) (s .args .at + 4) 0 in
     let got : c .last-column .result ≡ lastColumn n b = rw (← u₄ .number) (c .last-column .ensures) in
     ⊎-elim
     (λ (p : (b ≡ 48 + joined n b % 10) × (lastColumn n b ≡ joined n b)).
-      got ∙ p .1 ∙ a-field (now (s .args .s)) (s .args .at) (record { c₁ = u₁ .right; c₂ = u₂ .right; c₃ = u₃ .right; c₄ = u₄ .right; c₅ = p .0 }))
+    got ∙ p .1 ∙ a-field (now (s .args .s)) (s .args .at) (record { c₁ = u₁ .right; c₂ = u₂ .right; c₃ = u₃ .right; c₄ = u₄ .right; c₅ = p .0 }))
     (λ (p : (b ≡ 48 + joined n b % 10 → ⊥) × (lastColumn n b ≡ 100000)). got ∙ p .1 ∙ no-field (now (s .args .s)) (s .args .at) (λ r. p .0 (r .c₅)))
     (last-says n b)
 

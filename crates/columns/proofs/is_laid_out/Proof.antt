@@ -24,7 +24,7 @@ field-at-requires : tie.Need-field-at-requires Inv-loop μ-loop
 field-at-requires c κs = omega arith
 
 returns : tie.Need-returns Inv-loop μ-loop
-returns c = 
+returns c =
     let l = c .before .before .before .loop in
     let e = field-none (now (c .before .before .before .before .before .args .s)) (l .here) (sym (c .before .field-at .ensures) ∙ c .if1 .taken) in
     sym (l .inv .2 ∙ laidOut-next _ (l .i) _ (l .here) (omega arith) ∙ rw e)
@@ -39,7 +39,7 @@ loop-less : tie.Need-loop-less Inv-loop μ-loop
 loop-less c = omega arith
 
 loop-again : tie.Need-loop-again Inv-loop μ-loop
-loop-again c = 
+loop-again c =
     let l = c .before .before .before .loop in
     let e = field-some (now (c .before .before .before .before .before .args .s)) (l .here) (λ z. c .if1 .left (c .before .field-at .ensures ∙ z)) in
     (omega arith, omega arith, l .inv .2 ∙ laidOut-next _ (l .i) _ (l .here) (omega arith) ∙ rw e)

@@ -44,7 +44,7 @@ loop-less : tie.Need-loop-less Inv-loop μ-loop
 loop-less c = omega arith
 
 loop-again : tie.Need-loop-again Inv-loop μ-loop
-loop-again c = 
+loop-again c =
     let s = c .before .before .before .before .before .before .before .before .before in
     let l = c .before .before .before .before .before .before .loop in
     let ns = now (s .args .numbers) in
@@ -62,7 +62,7 @@ same-length c = simp length-set (c .before .loop .inv .2)
 
 returns : tie.Need-returns Inv-loop μ-loop
 unfolding line
-returns c = 
+returns c =
     let s = c .before .before .before .before in
     let l = c .before .loop in
     let ns = now (s .args .numbers) in

@@ -33,7 +33,7 @@ mul-used c = search needs
 
 -- src/lib.rt:112:38
 sub-used : tie.Need-sub-used
-sub-used c = 
+sub-used c =
     let s = c .before .before .before .before .before .before .before .before .before in
     let q = c .before .before .before .before .before .question in
     let told = c .before .a .given .1 in
@@ -46,7 +46,7 @@ mul-used-2 c = search needs
 
 -- src/lib.rt:113:49
 slice-reshare-prefix-check : tie.Need-slice-reshare-prefix-check
-slice-reshare-prefix-check c = 
+slice-reshare-prefix-check c =
     let s = c .before .before .before .before .before .before .before .before .before in
     let q = c .before .before .before .before .before .question in
     let told = c .before .a .given .1 in
@@ -55,7 +55,7 @@ slice-reshare-prefix-check c =
 
 -- src/lib.rt:113:49
 slice-aggregate-check : tie.Need-slice-aggregate-check
-slice-aggregate-check c = 
+slice-aggregate-check c =
     let s = c .before .before .before .before .before .before .before .before .before .before in
     let q = c .before .before .before .before .before .before .question in
     let told = c .before .before .a .given .1 in
@@ -113,7 +113,7 @@ same-length c = search needs
 -- src/lib.rt:106:1
 returns : tie.Need-returns
 unfolding confirmed
-returns c = 
+returns c =
     let s = c .before .before .before .before .before .before .before .before .before .before .before in
     let q = c .before .before .before .before .before .before .before .question in
     let told = c .before .before .before .a .given .1 in
@@ -127,7 +127,7 @@ same-length-2 c = search needs
 -- src/lib.rt:106:1
 returns-2 : tie.Need-returns-2
 unfolding confirmed
-returns-2 c = 
+returns-2 c =
     let q = c .before .before .before .before .before .question in
     let told = c .before .enum-told .given .1 in
     let u = c .unchecked in
@@ -140,7 +140,7 @@ same-length-3 c = search needs
 -- src/lib.rt:106:1
 returns-3 : tie.Need-returns-3
 unfolding confirmed
-returns-3 c = 
+returns-3 c =
     let q = c .before .before .before .before .before .before .question in
     let told = c .before .before .a2 .given .1 in
     let u = c .unchecked2 in
@@ -153,7 +153,7 @@ same-length-4 c = search needs
 -- src/lib.rt:106:1
 returns-4 : tie.Need-returns-4
 unfolding confirmed
-returns-4 c = 
+returns-4 c =
     let q = c .before .before .before .before .before .before .question in
     let told = c .before .before .a3 .given .1 in
     let u = c .unchecked3 in
@@ -166,7 +166,7 @@ same-length-5 c = search needs
 -- src/lib.rt:106:1
 returns-5 : tie.Need-returns-5
 unfolding confirmed
-returns-5 c = 
+returns-5 c =
     let q = c .before .before .before .before .before .before .question in
     let told = c .before .before .a4 .given .1 in
     let u = c .unchecked4 in
@@ -179,7 +179,7 @@ same-length-6 c = search needs
 -- src/lib.rt:106:1
 returns-6 : tie.Need-returns-6
 unfolding confirmed
-returns-6 c = 
+returns-6 c =
     let q = c .before .before .before .before .before .before .question in
     let told = c .before .before .a5 .given .1 in
     let u = c .unchecked5 in

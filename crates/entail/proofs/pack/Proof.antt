@@ -1,9 +1,9 @@
--- `entail::pack` meets its contract: each of the three numbers has its own bits.
+-- `entail::pack` meets its contract: the sum has no more than 64 bits.
 -- Assumes nothing.
-use mathlib.Core.Path.{_∙_}
+use mathlib.Core.Path.{ap}
 use native.Mathlib.Omega.{arith}
 use borrow.Author.Needs.{needs}
-use Rattle.entail.proofs.Small.{unpack-pack}
+use Rattle.entail.specs.Packed.{packed}
 use Rattle.entail.proofs.pack.Statement.{statement}
 use Rattle.entail.proofs.pack.Tie as tie
 
@@ -32,7 +32,7 @@ add-result-2 : tie.Need-add-result-2
 add-result-2 c = let r = c .before .before .before .code-of in let s = rw (← r .ensures) at (c .before .before .before .before .pre) in omega (arith, s .number, s .place, s .count)
 
 returns : tie.Need-returns
-returns c = let r = c .before .before .before .code-of in let s = rw (← r .ensures) at (c .before .before .before .before .pre) in unpack-pack (r .result) s ∙ r .ensures
+returns c = ap packed (c .before .before .before .code-of .ensures)
 
 pub pack-spec : {M : Type 1} → statement M
 pack-spec =

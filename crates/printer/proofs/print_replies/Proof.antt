@@ -1,24 +1,30 @@
--- `printer::print_replies` is safe and ends: a reply fits the memory lent for it.
+-- `printer::print_replies` meets its contract. The loop's invariant: so many bytes have been printed as the replies so far have.
 -- Assumes nothing.
-use Prim.Native.Nat.{_-_}
-use mathlib.Core.Path.{_≡_, sym, ap, _∙_}
+use mathlib.Core.Path.{_≡_, refl, sym, ap, _∙_}
+use Prim.Native.Nat.{_-_, _*_, _≤_}
 use native.Mathlib.Omega.{arith}
 use lib.ListN.{length, length-append, length-take}
+use denote.Ref.{now}
 use borrow.Author.Needs.{needs}
+use Rattle.columns.specs.Lines.{flat, itemsFrom}
+use Rattle.columns.proofs.Lists.{flat-more}
+use Rattle.batch.specs.Output.{replyIn}
+use Rattle.printer.specs.Replies.{replies}
 use Rattle.printer.proofs.print_replies.Statement.{statement}
 use Rattle.printer.proofs.print_replies.Tie as tie
 
 abbrev Inv-loop : tie.InvT-loop
-Inv-loop input table questions out₀ k₀ out k = 63473 ≡ length out
+Inv-loop input table questions out₀ printed₀ k₀ out printed k = (k ≤ questions) × (63473 ≡ length out) × (printed ≡ length (replies input table k)) × (printed ≤ 63473 * k)
 
 abbrev μ-loop : tie.MeasureT-loop
-μ-loop input table questions out₀ k₀ out k = questions - k
+μ-loop input table questions out₀ printed₀ k₀ out printed k = questions - k
 
 reply-space-requires : tie.Need-reply-space-requires Inv-loop μ-loop
 reply-space-requires c κs = search needs
 
 loop-holds : tie.Need-loop-holds Inv-loop μ-loop
-loop-holds c = search needs
+unfolding flat itemsFrom
+loop-holds c = (omega arith, c .reply-space .ensures, refl, omega arith)
 
 slice-aggregate-reply : tie.Need-slice-aggregate-reply Inv-loop μ-loop
 slice-aggregate-reply c = search needs
@@ -27,13 +33,16 @@ reply-requires : tie.Need-reply-requires Inv-loop μ-loop
 reply-requires c κs = search needs
 
 array-share-prefix-out : tie.Need-array-share-prefix-out Inv-loop μ-loop
-array-share-prefix-out c = let e = c .before .reply .ensures in omega (arith, e .0, simp length-append at (ap length (e .1)))
+array-share-prefix-out c = let e = c .before .reply .ensures in let few = simp length-append at (ap length (e .1)) in omega (arith, e .0, few)
 
 slice-aggregate-write-all : tie.Need-slice-aggregate-write-all Inv-loop μ-loop
-slice-aggregate-write-all c = let e = c .before .before .reply .ensures in rw length-take (omega (arith, e .0, simp length-append at (ap length (e .1))))
+slice-aggregate-write-all c = let e = c .before .before .reply .ensures in let few = simp length-append at (ap length (e .1)) in rw length-take (omega (arith, e .0, few))
 
 write-all-requires : tie.Need-write-all-requires Inv-loop μ-loop
 write-all-requires c κs = search needs
+
+add-printed : tie.Need-add-printed Inv-loop μ-loop
+add-printed c = let e = c .before .before .before .reply .ensures in let few = simp length-append at (ap length (e .1)) in omega (arith, e .0, few)
 
 add-k : tie.Need-add-k Inv-loop μ-loop
 add-k c = omega arith
@@ -42,10 +51,20 @@ loop-less : tie.Need-loop-less Inv-loop μ-loop
 loop-less c = omega arith
 
 loop-again : tie.Need-loop-again Inv-loop μ-loop
-loop-again c = c .before .before .before .before .before .before .loop .inv ∙ sym (c .before .before .before .reply .kept .1 .1 .1 .0)
+loop-again c =
+    let s = c .before .before .before .before .before .before .before .before .before in
+    let l = c .before .before .before .before .before .before .loop in
+    let r = c .before .before .before .reply in
+    let e = r .ensures in
+    let few = simp length-append at (ap length (e .1)) in
+    let input = now (s .args .input) in
+    let table = s .args .table in
+    let size : r .result ≡ length (replyIn input table (l .k) 63473) = e .0 ∙ rw (← l .inv .1) in
+    let more = flat-more (λ k. replyIn input table k 63473) (λ k. k) (l .k) in
+    (omega arith, l .inv .1 ∙ sym (r .kept .1 .1 .1 .0), rw (more, length-append) (omega (arith, size, l .inv .2)), omega (arith, e .0, few))
 
 returns : tie.Need-returns Inv-loop μ-loop
-returns c = search needs
+returns c = let e : c .before .loop .k ≡ c .before .before .before .before .args .questions = omega arith in c .before .loop .inv .2 ∙ rw e
 
 pub print-replies-spec : {M : Type 1} → statement M
 print-replies-spec =
@@ -60,6 +79,7 @@ print-replies-spec =
     array-share-prefix-out
     slice-aggregate-write-all
     write-all-requires
+    add-printed
     add-k
     loop-less
     loop-again

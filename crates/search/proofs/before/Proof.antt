@@ -29,9 +29,15 @@ q-few : (c : tie.In-loop Inv-loop μ-loop) → c .before .loop .q - 1 < 1024
 q-few c = omega (arith, c .loop-test .taken, c .before .loop .inv .high, c .before .before .before .pre .queued .few)
 
 i-few : (c : tie.After-wide Inv-loop μ-loop) → c .wide .result < c .before .before .before .before .before .args .n
-i-few c = let l = c .before .before .before .loop in omega (arith, c .before .before .before .before .before .pre .queued .inside (l .q - 1) (omega (arith, c .before .before .loop-test .taken, l .inv .high)), c .wide .ensures)
+i-few c = let l =
+    c .before .before .before .loop in omega (
+      arith,
+      c .before .before .before .before .before .pre .queued .inside (l .q - 1) (omega (arith, c .before .before .loop-test .taken, l .inv .high)),
+      c .wide .ensures,
+    )
 
-mark-is : (c : tie.After-wide2 Inv-loop μ-loop) → let a = c .before .before .before .before .before .before .before .args in c .wide2 .result ≡ getD (a .mark .now) (getD (a .queue .now) (c .before .before .before .before .before .loop .q - 1) 0) 0
+mark-is : (c : tie.After-wide2 Inv-loop μ-loop) → let a =
+    c .before .before .before .before .before .before .before .args in c .wide2 .result ≡ getD (a .mark .now) (getD (a .queue .now) (c .before .before .before .before .before .loop .q - 1) 0) 0
 mark-is c = c .wide2 .ensures ∙ ap (λ (i : ℕ). getD (c .before .before .before .before .before .before .before .args .mark .now) i 0) (c .before .before .wide .ensures)
 
 loop-holds : tie.Need-loop-holds Inv-loop μ-loop
@@ -61,7 +67,8 @@ wide-requires-2 c κs = search needs
 returns : tie.Need-returns Inv-loop μ-loop
 returns c =
     let l = c .before .before .before .before .before .before .loop in
-    looking-stop _ _ _ _ _ _ _ _ (l .at) (l .q) (c .before .before .before .before .before .before .before .before .pre) (l .inv) (c .before .before .before .before .before .loop-test .taken) (omega (arith, mark-is (c .before), c .if1 .taken))
+    looking-stop _ _ _ _ _ _ _ _ (l .at) (l .q) (c .before .before .before .before .before .before .before .before .pre) (l .inv) (c .before .before .before .before .before .loop-test .taken)
+    (omega (arith, mark-is (c .before), c .if1 .taken))
 
 fact-at-requires : tie.Need-fact-at-requires Inv-loop μ-loop
 fact-at-requires c κs = omega (arith, i-few (c .before .before .before .before .before), c .before .before .before .before .before .before .before .before .before .before .pre .rising .whole)

@@ -29,7 +29,9 @@ starts-requires : tie.Need-starts-requires Inv-loop μ-loop
 starts-requires c κs = search needs
 
 returns : tie.Need-returns Inv-loop μ-loop
-returns c = let l = c .before .before .before .before .before .loop in sym (ap (orElse _) (l .inv .1 ∙ least-hit _ (c .before .before .before .before .loop-test .taken) (rw (← c .before .before .before .fact-at .ensures, ← c .before .before .ends .ensures, ← c .before .starts .ensures) (c .if1 .taken))))
+returns c = let l =
+    c .before .before .before .before .before .loop in sym (ap (orElse _) (l .inv .1 ∙ least-hit _ (c .before .before .before .before .loop-test .taken)
+    (rw (← c .before .before .before .fact-at .ensures, ← c .before .before .ends .ensures, ← c .before .starts .ensures) (c .if1 .taken))))
 
 add-j : tie.Need-add-j Inv-loop μ-loop
 add-j c = omega arith
@@ -38,7 +40,15 @@ loop-less : tie.Need-loop-less Inv-loop μ-loop
 loop-less c = omega arith
 
 loop-again : tie.Need-loop-again Inv-loop μ-loop
-loop-again c = let l = c .before .before .before .before .before .loop in (omega arith, l .inv .1 ∙ least-skip _ (c .before .before .before .before .loop-test .taken) (rw (← c .before .before .before .fact-at .ensures, ← c .before .before .ends .ensures, ← c .before .starts .ensures) (c .if1 .left)))
+loop-again c = let l =
+    c .before .before .before .before .before .loop in (
+      omega arith,
+      l .inv .1 ∙ least-skip _ (c .before .before .before .before .loop-test .taken) (rw (
+        ← c .before .before .before .fact-at .ensures,
+        ← c .before .before .ends .ensures,
+        ← c .before .starts .ensures,
+      ) (c .if1 .left)),
+    )
 
 returns-2 : tie.Need-returns-2 Inv-loop μ-loop
 returns-2 c = let l = c .before .loop in sym (ap (orElse _) (l .inv .1 ∙ least-end _ (c .loop-test .left)))

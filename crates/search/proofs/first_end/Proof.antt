@@ -46,7 +46,15 @@ returns-2 c =
     let l = c .before .before .before .before .before .before .loop in
     let a = c .before .before .before .before .before .before .before .before .args in
     let x = and-yes (goal (a .t) (rowFact (a .row .now) (l .j))) (next (a .w) (a .a) (rowFact (a .row .now) (l .j))) (T-of _ (tests (c .before) ∙ c .if2 .taken)) in
-    record { most = omega (arith, c .before .before .before .before .if1 .left); is = inr (c .before .before .before .before .before .loop-test .taken, x .1, x .0); low = λ i h u y z. most-or (l .j) i (λ v. v) (λ v. absurd (l .inv .1 i h v y z)) }
+    record {
+      most = omega (arith, c .before .before .before .before .if1 .left);
+      is = inr (
+        c .before .before .before .before .before .loop-test .taken,
+        x .1,
+        x .0,
+      );
+      low = λ i h u y z. most-or (l .j) i (λ v. v) (λ v. absurd (l .inv .1 i h v y z));
+    }
 
 add-j : tie.Need-add-j Inv-loop μ-loop
 add-j c = omega (arith, c .before .before .before .before .before .loop-test .taken)

@@ -39,7 +39,13 @@ line-of-requires-3 c κs = search needs
 
 returns-3 : tie.Need-returns-3
 unfolding join
-returns-3 c = c .line-of3 .ensures ∙ rw (sym (c .before .before .before .before .is-name .ensures) ∙ c .before .before .before .if1 .left, ne-eqb _ _ (c .before .before .if2 .left), eq-eqb _ _ (c .before .if3 .taken), add-one)
+returns-3 c =
+    c .line-of3 .ensures ∙ rw (
+      sym (c .before .before .before .before .is-name .ensures) ∙ c .before .before .before .if1 .left,
+      ne-eqb _ _ (c .before .before .if2 .left),
+      eq-eqb _ _ (c .before .if3 .taken),
+      add-one,
+    )
 
 add-line-of-4 : tie.Need-add-line-of-4
 add-line-of-4 c = search needs
@@ -49,7 +55,14 @@ line-of-requires-4 c κs = search needs
 
 returns-4 : tie.Need-returns-4
 unfolding join
-returns-4 c = c .line-of4 .ensures ∙ rw (sym (c .before .before .before .before .before .is-name .ensures) ∙ c .before .before .before .before .if1 .left, ne-eqb _ _ (c .before .before .before .if2 .left), ne-eqb _ _ (c .before .before .if3 .left), eq-eqb _ _ (c .before .if4 .taken), add-one)
+returns-4 c =
+    c .line-of4 .ensures ∙ rw (
+      sym (c .before .before .before .before .before .is-name .ensures) ∙ c .before .before .before .before .if1 .left,
+      ne-eqb _ _ (c .before .before .before .if2 .left),
+      ne-eqb _ _ (c .before .before .if3 .left),
+      eq-eqb _ _ (c .before .if4 .taken),
+      add-one,
+    )
 
 add-line-of-5 : tie.Need-add-line-of-5
 add-line-of-5 c = search needs
@@ -59,7 +72,15 @@ line-of-requires-5 c κs = search needs
 
 returns-5 : tie.Need-returns-5
 unfolding join
-returns-5 c = c .line-of5 .ensures ∙ rw (sym (c .before .before .before .before .before .before .before .is-name .ensures) ∙ c .before .before .before .before .before .before .if1 .left, ne-eqb _ _ (c .before .before .before .before .before .if2 .left), ne-eqb _ _ (c .before .before .before .before .if3 .left), ne-eqb _ _ (c .before .before .before .if4 .left), eq-eqb _ _ (c .before .if5 .taken), add-one)
+returns-5 c =
+    c .line-of5 .ensures ∙ rw (
+      sym (c .before .before .before .before .before .before .before .is-name .ensures) ∙ c .before .before .before .before .before .before .if1 .left,
+      ne-eqb _ _ (c .before .before .before .before .before .if2 .left),
+      ne-eqb _ _ (c .before .before .before .before .if3 .left),
+      ne-eqb _ _ (c .before .before .before .if4 .left),
+      eq-eqb _ _ (c .before .if5 .taken),
+      add-one,
+    )
 
 add-line-of-6 : tie.Need-add-line-of-6
 add-line-of-6 c = search needs
@@ -69,7 +90,15 @@ line-of-requires-6 c κs = search needs
 
 returns-6 : tie.Need-returns-6
 unfolding join
-returns-6 c = c .line-of6 .ensures ∙ rw (sym (c .before .before .before .before .before .before .before .is-name .ensures) ∙ c .before .before .before .before .before .before .if1 .left, ne-eqb _ _ (c .before .before .before .before .before .if2 .left), ne-eqb _ _ (c .before .before .before .before .if3 .left), ne-eqb _ _ (c .before .before .before .if4 .left), ne-eqb _ _ (c .before .if5 .left), add-one)
+returns-6 c =
+    c .line-of6 .ensures ∙ rw (
+      sym (c .before .before .before .before .before .before .before .is-name .ensures) ∙ c .before .before .before .before .before .before .if1 .left,
+      ne-eqb _ _ (c .before .before .before .before .before .if2 .left),
+      ne-eqb _ _ (c .before .before .before .before .if3 .left),
+      ne-eqb _ _ (c .before .before .before .if4 .left),
+      ne-eqb _ _ (c .before .if5 .left),
+      add-one,
+    )
 
 pub join-line-spec : {M : Type 1} → statement M
 join-line-spec =

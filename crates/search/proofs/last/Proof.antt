@@ -53,7 +53,12 @@ part-of-requires : tie.Need-part-of-requires Inv-loop μ-loop
 part-of-requires c κs = c .before .before .before .before .before .before .before .before .before .before .pre .rising
 
 first-end-requires : tie.Need-first-end-requires Inv-loop μ-loop
-first-end-requires c κs = omega (arith, part-within (c .before .before .before .before .before .before .before .before .before .before .before .pre .rising .few) (c .part-of .ensures) .0, c .before .before .before .before .before .before .before .before .before .before .before .pre .rising .whole)
+first-end-requires c κs =
+    omega (
+      arith,
+      part-within (c .before .before .before .before .before .before .before .before .before .before .before .pre .rising .few) (c .part-of .ensures) .0,
+      c .before .before .before .before .before .before .before .before .before .before .before .pre .rising .whole,
+    )
 
 array-write-done : tie.Need-array-write-done Inv-loop μ-loop
 array-write-done c = omega (arith, part-within (c .before .before .before .before .before .before .before .before .before .before .before .before .pre .rising .few) (c .before .part-of .ensures) .1)
@@ -78,7 +83,8 @@ loop-again c =
     let part = subst (λ (g : Fact). PartOf (a .row .now) (a .n) (a .w) g (l .done) (p .from) (p .to) (p .slot)) f (w .3 .ensures) in
     let first = subst (λ (g : Fact). FirstEnd (a .row .now) (a .w) (a .t) g (p .from) (p .to) (l .best) (w .4 .result)) f (w .4 .ensures) in
     rw (w .5, w .6)
-    (ending-more _ _ _ _ _ _ _ (l .best) _ (l .done) (l .q) (z .pre .rising) (z .pre .some) (z .pre .queued .inside (l .q) (c .before .before .before .before .before .loop-test .taken)) (sym k ∙ w .0 .taken) part first (l .inv)))
+    (ending-more _ _ _ _ _ _ _ (l .best) _ (l .done) (l .q) (z .pre .rising) (z .pre .some) (z .pre .queued .inside (l .q) (c .before .before .before .before .before .loop-test .taken)) (sym k
+    ∙ w .0 .taken) part first (l .inv)))
     (λ w. rw (w .1, w .2) (ending-skip _ _ _ _ _ _ _ _ _ (l .q) (l .inv) (λ e. w .0 .left (k ∙ e)))) (c .if1 .came)
 
 returns : tie.Need-returns Inv-loop μ-loop

@@ -64,7 +64,15 @@ returns : tie.Need-returns Inv-loop μ-loop
 unfolding rowFact
 returns c =
     let l = c .before .before .before .before .loop in
-    record { within = omega arith; below = λ k h. omega (arith, c .before .before .before .before .before .pre .rises k (l .lo) (omega arith) (c .before .before .if2 .taken), c .if3 .taken); above = λ k h g. l .inv .2 k (omega arith) g }
+    record {
+      within = omega arith;
+      below = λ k h. omega (
+        arith,
+        c .before .before .before .before .before .pre .rises k (l .lo) (omega arith) (c .before .before .if2 .taken),
+        c .if3 .taken,
+      );
+      above = λ k h g. l .inv .2 k (omega arith) g;
+    }
 
 returns-2 : tie.Need-returns-2 Inv-loop μ-loop
 unfolding rowFact

@@ -28,12 +28,14 @@ part-end-requires c κs = search needs
 
 returns : tie.Need-returns
 returns c =
-    part-some _ _ _ _ _ (c .before .before .before .before .before .before .link-of .ensures) (c .before .before .before .before .before .lower-bound .ensures) (c .before .before .before .before .slot .ensures)
+    part-some _ _ _ _ _ (c .before .before .before .before .before .before .link-of .ensures) (c .before .before .before .before .before .lower-bound .ensures)
+    (c .before .before .before .before .slot .ensures)
     (c .before .before .goes-on .ensures) (c .before .part-end .ensures) (c .if1 .taken)
 
 returns-2 : tie.Need-returns-2
 returns-2 c =
-    part-none _ _ _ _ _ (c .before .before .before .before .before .before .link-of .ensures) (c .before .before .before .before .before .lower-bound .ensures) (c .before .before .before .before .slot .ensures)
+    part-none _ _ _ _ _ (c .before .before .before .before .before .before .link-of .ensures) (c .before .before .before .before .before .lower-bound .ensures)
+    (c .before .before .before .before .slot .ensures)
     (c .before .before .goes-on .ensures) (c .before .part-end .ensures) (c .if1 .left)
 
 pub part-of-spec : {M : Type 1} → statement M

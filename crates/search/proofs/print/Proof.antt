@@ -33,7 +33,8 @@ abbrev μ-loop : tie.MeasureT-loop
 μ-loop row n f path out₀ c₀ k₀ i₀ at₀ out c k i at = f - k
 
 -- the first line
-first-line : (c : tie.After-put-line Inv-loop μ-loop) → let z = c .before .before .before .before .before .before .before .before .before in c .put-line .last .1 .0 ≡ over (bytesOf (factAt (z .args .row .now) (z .args .path .now)) 1) (z .args .out .now)
+first-line : (c : tie.After-put-line Inv-loop μ-loop) → let z = c .before .before .before .before .before .before .before .before .before in
+    c .put-line .last .1 .0 ≡ over (bytesOf (factAt (z .args .row .now) (z .args .path .now)) 1) (z .args .out .now)
 first-line c =
     let z = c .before .before .before .before .before .before .before .before .before in
     let f = c .before .before .before .fact-at .ensures ∙ ap (rowFact (z .args .row .now)) (c .before .before .before .before .wide .ensures) in
@@ -79,31 +80,95 @@ wide-requires-2 : tie.Need-wide-requires-2 Inv-loop μ-loop
 wide-requires-2 c κs = search needs
 
 fact-at-requires-2 : tie.Need-fact-at-requires-2 Inv-loop μ-loop
-fact-at-requires-2 c κs = let z = c .before .before .before .before .before .before .before .before .before .before .before .before .before .before .before in omega (arith, z .pre .placed .inside (c .before .before .before .loop .k) (c .before .before .loop-test .taken), z .pre .placed .whole, c .wide2 .ensures)
+fact-at-requires-2 c κs = let z =
+    c .before .before .before .before .before .before .before .before .before .before .before .before .before .before .before in omega (
+      arith,
+      z .pre .placed .inside (c .before .before .before .loop .k) (c .before .before .loop-test .taken),
+      z .pre .placed .whole,
+      c .wide2 .ensures,
+    )
 
 sub-put-joined : tie.Need-sub-put-joined Inv-loop μ-loop
-sub-put-joined c = let z = c .before .before .before .before .before .before .before .before .before .before .before .before .before .before .before .before in let l = c .before .before .before .before .loop in omega (arith, z .pre .fits, l .inv .2, l .inv .4, c .before .before .before .loop-test .taken, c .before .before .before .before .before .before .before .put-line .kept .1 .0)
+sub-put-joined c = let z = c .before .before .before .before .before .before .before .before .before .before .before .before .before .before .before .before in
+    let l = c .before .before .before .before .loop in omega (
+      arith,
+      z .pre .fits,
+      l .inv .2,
+      l .inv .4,
+      c .before .before .before .loop-test .taken,
+      c .before .before .before .before .before .before .before .put-line .kept .1 .0,
+    )
 
 part-put-joined-start : tie.Need-part-put-joined-start Inv-loop μ-loop
-part-put-joined-start c = let z = c .before .before .before .before .before .before .before .before .before .before .before .before .before .before .before .before in let l = c .before .before .before .before .loop in omega (arith, z .pre .fits, l .inv .2, l .inv .4, c .before .before .before .loop-test .taken, c .before .before .before .before .before .before .before .put-line .kept .1 .0)
+part-put-joined-start c = let z = c .before .before .before .before .before .before .before .before .before .before .before .before .before .before .before .before in
+    let l = c .before .before .before .before .loop in omega (
+      arith,
+      z .pre .fits,
+      l .inv .2,
+      l .inv .4,
+      c .before .before .before .loop-test .taken,
+      c .before .before .before .before .before .before .before .put-line .kept .1 .0,
+    )
 
 part-put-joined-end : tie.Need-part-put-joined-end Inv-loop μ-loop
-part-put-joined-end c = let z = c .before .before .before .before .before .before .before .before .before .before .before .before .before .before .before .before in let l = c .before .before .before .before .loop in omega (arith, z .pre .fits, l .inv .2, l .inv .4, c .before .before .before .loop-test .taken, c .before .before .before .before .before .before .before .put-line .kept .1 .0)
+part-put-joined-end c = let z = c .before .before .before .before .before .before .before .before .before .before .before .before .before .before .before .before in
+    let l = c .before .before .before .before .loop in omega (
+      arith,
+      z .pre .fits,
+      l .inv .2,
+      l .inv .4,
+      c .before .before .before .loop-test .taken,
+      c .before .before .before .before .before .before .before .put-line .kept .1 .0,
+    )
 
 put-joined-requires : tie.Need-put-joined-requires Inv-loop μ-loop
-put-joined-requires c κs = let z = c .before .before .before .before .before .before .before .before .before .before .before .before .before .before .before .before .before in let l = c .before .before .before .before .before .loop in (omega (arith, l .inv .3, z .pre .few, c .before .before .before .before .loop-test .taken), simp (length-take, length-drop) (omega (arith, z .pre .fits, l .inv .0, l .inv .2, l .inv .4, c .before .before .before .before .loop-test .taken, c .before .before .before .before .before .before .before .before .put-line .kept .1 .0)))
+put-joined-requires c κs = let z = c .before .before .before .before .before .before .before .before .before .before .before .before .before .before .before .before .before in
+    let l = c .before .before .before .before .before .loop in (
+      omega (arith, l .inv .3, z .pre .few, c .before .before .before .before .loop-test .taken),
+      simp (length-take, length-drop)
+          (omega (
+            arith,
+            z .pre .fits,
+            l .inv .0,
+            l .inv .2,
+            l .inv .4,
+            c .before .before .before .before .loop-test .taken,
+            c .before .before .before .before .before .before .before .before .put-line .kept .1 .0,
+          )),
+    )
 
 mul-at : tie.Need-mul-at Inv-loop μ-loop
 mul-at c = search needs
 
 add-at : tie.Need-add-at Inv-loop μ-loop
-add-at c = let l = c .before .before .before .before .before .before .before .before .loop in omega (arith, c .before .before .before .before .before .before .before .before .before .before .before .before .before .before .before .before .before .before .before .before .pre .few, l .inv .2, l .inv .3, c .before .before .before .before .before .before .before .loop-test .taken)
+add-at c = let l =
+    c .before .before .before .before .before .before .before .before .loop in omega (
+      arith,
+      c .before .before .before .before .before .before .before .before .before .before .before .before .before .before .before .before .before .before .before .before .pre .few,
+      l .inv .2,
+      l .inv .3,
+      c .before .before .before .before .before .before .before .loop-test .taken,
+    )
 
 add-i : tie.Need-add-i Inv-loop μ-loop
-add-i c = let l = c .before .before .before .before .before .before .before .before .loop in omega (arith, c .before .before .before .before .before .before .before .before .before .before .before .before .before .before .before .before .before .before .before .before .pre .few, l .inv .2, l .inv .3, c .before .before .before .before .before .before .before .loop-test .taken)
+add-i c = let l =
+    c .before .before .before .before .before .before .before .before .loop in omega (
+      arith,
+      c .before .before .before .before .before .before .before .before .before .before .before .before .before .before .before .before .before .before .before .before .pre .few,
+      l .inv .2,
+      l .inv .3,
+      c .before .before .before .before .before .before .before .loop-test .taken,
+    )
 
 add-k : tie.Need-add-k Inv-loop μ-loop
-add-k c = let l = c .before .before .before .before .before .before .before .before .loop in omega (arith, c .before .before .before .before .before .before .before .before .before .before .before .before .before .before .before .before .before .before .before .before .pre .few, l .inv .2, l .inv .3, c .before .before .before .before .before .before .before .loop-test .taken)
+add-k c = let l =
+    c .before .before .before .before .before .before .before .before .loop in omega (
+      arith,
+      c .before .before .before .before .before .before .before .before .before .before .before .before .before .before .before .before .before .before .before .before .pre .few,
+      l .inv .2,
+      l .inv .3,
+      c .before .before .before .before .before .before .before .loop-test .taken,
+    )
 
 loop-less : tie.Need-loop-less Inv-loop μ-loop
 loop-less c = omega arith
@@ -115,12 +180,21 @@ loop-again c =
     let p = c .before .before .put-joined in
     let o = c .before .before .before .before .before .before .before .before .before .before .before .put-line .last .1 .0 in
     let g = factAt (z .args .row .now) (z .args .path .now) in
-    let here : c .before .before .before .before .fact-at2 .result ≡ g (l .k) = c .before .before .before .before .fact-at2 .ensures ∙ ap (rowFact (z .args .row .now)) (c .before .before .before .before .before .wide2 .ensures) in
+    let here : c .before .before .before .before .fact-at2 .result ≡ g (l .k) = c .before .before .before .before .fact-at2 .ensures ∙ ap (rowFact (z .args .row .now))
+    (c .before .before .before .before .before .wide2 .ensures) in
     let new : List Line = line 0 0 0 (g (l .k)) ∷ join (resultAt g (l .k)) (2 * l .k - 1) (g (l .k)) ∷ [] in
     let m = bytes-more g (l .k) (l .inv .0) in
     let long : length (derivationBytes new) ≡ 62 = derivation-length new in
-    let room : l .at + length (derivationBytes new) ≤ length o = omega (arith, long, z .pre .fits, l .inv .2, c .before .before .before .before .before .before .before .loop-test .taken, c .before .before .before .before .before .before .before .before .before .before .before .put-line .kept .1 .0) in
-    let e = part-more (l .out) (bytesOf g (l .k)) (derivationBytes new) o (p .last .1 .1 .1 .0) (l .at) (l .inv .5) (l .inv .4) (bytes-length g (l .k) ∙ sym (l .inv .2)) room (p .ensures .1 ∙ rw (l .inv .6, l .inv .3, here)) in (
+    let room : l .at + length (derivationBytes new) ≤ length o = omega (
+      arith,
+      long,
+      z .pre .fits,
+      l .inv .2,
+      c .before .before .before .before .before .before .before .loop-test .taken,
+      c .before .before .before .before .before .before .before .before .before .before .before .put-line .kept .1 .0,
+    ) in
+    let e = part-more (l .out) (bytesOf g (l .k)) (derivationBytes new) o (p .last .1 .1 .1 .0) (l .at) (l .inv .5) (l .inv .4) (bytes-length g (l .k) ∙ sym (l .inv .2)) room (p .ensures .1
+    ∙ rw (l .inv .6, l .inv .3, here)) in (
       omega arith,
       omega (arith, c .before .before .before .before .before .before .before .loop-test .taken),
       omega (arith, l .inv .0, l .inv .2),
@@ -139,7 +213,12 @@ returns c =
     let l = c .before .loop in
     let g = factAt (z .args .row .now) (z .args .path .now) in
     let k : l .k ≡ z .args .f = omega (arith, l .inv .1, c .loop-test .left) in
-    l .inv .5 ∙ rw k (ap (over (bytesOf g (z .args .f))) (first-line (c .before .before .before .before)) ∙ over-over (bytesOf g (z .args .f)) (bytesOf g 1) (z .args .out .now) (omega (arith, bytes-length g (z .args .f), bytes-length g 1, z .pre .placed .some)))
+    l .inv .5 ∙ rw k (ap (over (bytesOf g (z .args .f))) (first-line (c .before .before .before .before)) ∙ over-over (bytesOf g (z .args .f)) (bytesOf g 1) (z .args .out .now) (omega (
+      arith,
+      bytes-length g (z .args .f),
+      bytes-length g 1,
+      z .pre .placed .some,
+    )))
 
 pub print-spec : {M : Type 1} → statement M
 print-spec =

@@ -34,13 +34,15 @@ returns : tie.Need-returns
 returns c =
     let d = c .before .before .before .before .before .before in
     let z = c .before .before .before .before .before .before .before .before .before .before .before .before in
-    rotated-print (z .args .row .now) (z .args .f) _ _ _ (z .pre .room) (ap (λ (f : Fact). named (f .predicate)) (sym (d .before .before .fact-at .ensures)) ∙ sym (d .before .is-name .ensures) ∙ d .if1 .taken)
+    rotated-print (z .args .row .now) (z .args .f) _ _ _ (z .pre .room) (ap (λ (f : Fact). named (f .predicate)) (sym (d .before .before .fact-at .ensures)) ∙ sym (d .before .is-name .ensures)
+    ∙ d .if1 .taken)
     (c .before .before .before .before .sp-run .ensures) (c .before .before .rotate .ensures)
 
 returns-2 : tie.Need-returns-2
 returns-2 c =
     let z = c .before .before .before .before .before .before in
-    print-same (z .args .row .now) (z .args .f) _ (z .pre .some) (z .pre .room) (ap (λ (f : Fact). named (f .predicate)) (sym (c .before .before .fact-at .ensures)) ∙ sym (c .before .is-name .ensures) ∙ c .if1 .left)
+    print-same (z .args .row .now) (z .args .f) _ (z .pre .some) (z .pre .room) (ap (λ (f : Fact). named (f .predicate)) (sym (c .before .before .fact-at .ensures)) ∙ sym (c .before .is-name .ensures)
+    ∙ c .if1 .left)
 
 pub print-order-spec : {M : Type 1} → statement M
 print-order-spec =

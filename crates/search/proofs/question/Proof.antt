@@ -48,7 +48,10 @@ settle-requires c κs =
     let p = passes (c .before .before .before .before .before .before) in
     let s = asked-sound _ _ _ (sym (c .before .before .before .before .verdict .ensures) ∙ c .before .before .enum-told .given .1) in
     record {
-      sorted = loaded-sorted _ (p .0) (p .1) _ _ (c .before .before .before .before .before .before .before .before .before .load .ensures .1) _ (p .2) (omega (arith, c .before .before .before .before .before .before .before .before .before .load .kept .1 .0));
+      sorted = loaded-sorted _ (p .0) (p .1) _ _ (c .before .before .before .before .before .before .before .before .before .load .ensures .1) _ (p .2) (omega (
+        arith,
+        c .before .before .before .before .before .before .before .before .before .load .kept .1 .0,
+      ));
       limited = s .0;
       room = s .1;
     }
@@ -67,7 +70,8 @@ returns-3 c =
     let p = passes (c .before .before .before .before .before .before .before .before .before) in
     let e = loaded-facts _ (p .0) (p .1) _ _ (c .before .before .before .before .before .before .before .before .before .before .before .before .load .ensures .1) _ (p .2) in
     let s = c .before .before .settle .ensures in
-    answered-settled _ _ _ _ (p .0) (p .1) _ _ (sym (c .before .before .before .before .before .before .before .verdict .ensures) ∙ c .before .before .before .before .before .enum-told .given .1) (rw e at (s .0)) (rw e at (s .1))
+    answered-settled _ _ _ _ (p .0) (p .1) _ _ (sym (c .before .before .before .before .before .before .before .verdict .ensures) ∙ c .before .before .before .before .before .enum-told .given .1)
+    (rw e at (s .0)) (rw e at (s .1))
 
 pub question-spec : {M : Type 1} → statement M
 question-spec =

@@ -46,11 +46,13 @@ i-few : (c : tie.In-loop Inv-loop2 μ-loop2 Inv-loop μ-loop Inv-passes μ-passe
 i-few c = let l = c .before .loop in l .inv .0 .round .ordered .queued (l .q) (omega (arith, c .loop-test .taken, l .inv .0 .ends)) .0
 
 -- the part that may follow the place
-part-at : (c : tie.After-part-of Inv-loop2 μ-loop2 Inv-loop μ-loop Inv-passes μ-passes) → let z = c .before .before .before .before .before .before .before .before .before in let l = c .before .before .before .before .before .loop in let p = c .part-of .result in
+part-at : (c : tie.After-part-of Inv-loop2 μ-loop2 Inv-loop μ-loop Inv-passes μ-passes) → let z = c .before .before .before .before .before .before .before .before .before in
+    let l = c .before .before .before .before .before .loop in let p = c .part-of .result in
     PartOf (z .args .row .now) (z .args .n) (z .args .w) (rowFact (z .args .row .now) (getD (l .s .queue) (l .q) 0)) (l .done) (p .from) (p .to) (p .slot)
 part-at c =
     let z = c .before .before .before .before .before .before .before .before .before in let p = c .part-of .result in
-    subst (λ (f : Fact). PartOf (z .args .row .now) (z .args .n) (z .args .w) f (c .before .before .before .before .before .loop .done) (p .from) (p .to) (p .slot)) (c .before .before .fact-at .ensures) (c .part-of .ensures)
+    subst (λ (f : Fact). PartOf (z .args .row .now) (z .args .n) (z .args .w) f (c .before .before .before .before .before .loop .done) (p .from) (p .to) (p .slot))
+    (c .before .before .fact-at .ensures) (c .part-of .ensures)
 
 j-few : (c : tie.In-loop2 Inv-loop2 μ-loop2 Inv-loop μ-loop Inv-passes μ-passes) → c .before .loop2 .j < c .before .before .before .before .before .before .before .before .before .before .before .args .n
 j-few c = omega (arith, c .loop2-test .taken, part-within (c .before .before .before .before .before .before .before .before .before .before .before .pre .rising .few) (part-at (c .before .before)) .0)
@@ -58,12 +60,16 @@ j-few c = omega (arith, c .loop2-test .taken, part-within (c .before .before .be
 to-few : (c : tie.Then2 Inv-loop2 μ-loop2 Inv-loop μ-loop Inv-passes μ-passes) → c .before .before .before .before .before .before .loop2 .s .to < 1024
 to-few c =
     let l = c .before .before .before .before .before .before .loop2 in
-    room _ (l .s) (l .j) (c .before .before .before .before .before .before .before .before .before .before .before .before .before .before .before .before .pre .rising .few) (l .inv .0 .middle .round .ordered) (j-few (c .before .before .before .before .before)) (c .before .before .before .if1 .taken)
+    room _ (l .s) (l .j) (c .before .before .before .before .before .before .before .before .before .before .before .before .before .before .before .before .pre .rising .few)
+    (l .inv .0 .middle .round .ordered) (j-few (c .before .before .before .before .before)) (c .before .before .before .if1 .taken)
 
 -- after the pass over the part, all that may follow is marked
-followed-at : (c : tie.After-loop2 Inv-loop2 μ-loop2 Inv-loop μ-loop Inv-passes μ-passes) → let z = c .before .before .before .before .before .before .before .before .before .before .before in let l = c .before .before .before .before .before .before .before .loop in
+followed-at : (c : tie.After-loop2 Inv-loop2 μ-loop2 Inv-loop μ-loop Inv-passes μ-passes) → let z = c .before .before .before .before .before .before .before .before .before .before .before in
+    let l = c .before .before .before .before .before .before .before .loop in
     Followed (z .args .row .now) (z .args .n) (z .args .w) (Marked (c .before .loop2 .s .mark)) (getD (l .s .queue) (l .q) 0)
-followed-at c = let l = c .before .loop2 in part-passed _ _ _ _ _ (l .j) (c .before .before .before .before .before .before .before .before .before .before .before .pre .rising) (part-at (c .before .before)) (l .inv .0 .done) (l .inv .1) (c .loop2-test .left)
+followed-at c = let l =
+    c .before .loop2 in part-passed _ _ _ _ _ (l .j) (c .before .before .before .before .before .before .before .before .before .before .before .pre .rising) (part-at (c .before .before))
+    (l .inv .0 .done) (l .inv .1) (c .loop2-test .left)
 
 passes-holds : tie.Need-passes-holds Inv-loop2 μ-loop2 Inv-loop μ-loop Inv-passes μ-passes
 passes-holds c = (begun-outer _ _ _ _ _ (c .before .pre), note-none _ _ _ _ 2051, refl)
@@ -88,7 +94,12 @@ part-of-requires : tie.Need-part-of-requires Inv-loop2 μ-loop2 Inv-loop μ-loop
 part-of-requires c κs = c .before .before .before .before .before .before .before .before .pre .rising
 
 loop2-holds : tie.Need-loop2-holds Inv-loop2 μ-loop2 Inv-loop μ-loop Inv-passes μ-passes
-loop2-holds c = (inner-begin _ _ _ _ _ _ _ _ _ _ (c .before .before .before .before .before .loop .inv .0) (c .before .before .before .before .loop-test .taken), c .before .before .before .before .before .loop .inv .1, refl, c .before .before .before .before .before .loop .inv .3)
+loop2-holds c = (
+  inner-begin _ _ _ _ _ _ _ _ _ _ (c .before .before .before .before .before .loop .inv .0) (c .before .before .before .before .loop-test .taken),
+  c .before .before .before .before .before .loop .inv .1,
+  refl,
+  c .before .before .before .before .before .loop .inv .3,
+)
 
 mul-if1 : tie.Need-mul-if1 Inv-loop2 μ-loop2 Inv-loop μ-loop Inv-passes μ-passes
 mul-if1 c = omega (arith, j-few c, c .before .before .before .before .before .before .before .before .before .before .before .pre .rising .few)
@@ -111,13 +122,28 @@ cast-s : tie.Need-cast-s Inv-loop2 μ-loop2 Inv-loop μ-loop Inv-passes μ-passe
 cast-s c = omega (arith, layer-few (c .before .before .before .before .before .before .before .before .before .before .before .before .before))
 
 mul-s : tie.Need-mul-s Inv-loop2 μ-loop2 Inv-loop μ-loop Inv-passes μ-passes
-mul-s c = omega (arith, j-few (c .before .before .before .before .before), c .before .before .before .before .before .before .before .before .before .before .before .before .before .before .before .before .pre .rising .few)
+mul-s c =
+    omega (
+      arith,
+      j-few (c .before .before .before .before .before),
+      c .before .before .before .before .before .before .before .before .before .before .before .before .before .before .before .before .pre .rising .few,
+    )
 
 element-write-s : tie.Need-element-write-s Inv-loop2 μ-loop2 Inv-loop μ-loop Inv-passes μ-passes
-element-write-s c = omega (arith, j-few (c .before .before .before .before .before), c .before .before .before .before .before .before .before .before .before .before .before .before .before .before .before .before .pre .rising .few)
+element-write-s c =
+    omega (
+      arith,
+      j-few (c .before .before .before .before .before),
+      c .before .before .before .before .before .before .before .before .before .before .before .before .before .before .before .before .pre .rising .few,
+    )
 
 cast-s-2 : tie.Need-cast-s-2 Inv-loop2 μ-loop2 Inv-loop μ-loop Inv-passes μ-passes
-cast-s-2 c = omega (arith, j-few (c .before .before .before .before .before), c .before .before .before .before .before .before .before .before .before .before .before .before .before .before .before .before .pre .rising .few)
+cast-s-2 c =
+    omega (
+      arith,
+      j-few (c .before .before .before .before .before),
+      c .before .before .before .before .before .before .before .before .before .before .before .before .before .before .before .before .pre .rising .few,
+    )
 
 mul-s-2 : tie.Need-mul-s-2 Inv-loop2 μ-loop2 Inv-loop μ-loop Inv-passes μ-passes
 mul-s-2 c = omega (arith, to-few c)
@@ -206,7 +232,9 @@ returns-2 c =
     let k = c .before .before .before .before .before .before .before .before .before .before .before .before .before .before .before .before .passes .layer in
     left-met _ _ _ _ k _
     (inner-met _ _ _ _ (l .j) (z .pre .rising .few) (l .inv .0) (j-few (c .before .before .before .before .before .before .before)) (c .before .before .before .before .before .if1 .taken)
-    (holds-of-both (next (z .args .w)) (c .before .before .before .follows .ensures) (c .before .before .before .before .before .before .before .before .before .before .before .fact-at .ensures) b (c .before .before .if2 .taken)) (holds-of (goal (z .args .t)) (c .before .ends .ensures) b (c .if3 .taken)))
+    (holds-of-both (next (z .args .w)) (c .before .before .before .follows .ensures)
+    (c .before .before .before .before .before .before .before .before .before .before .before .fact-at .ensures) b (c .before .before .if2 .taken)) (holds-of (goal (z .args .t))
+    (c .before .ends .ensures) b (c .if3 .taken)))
 
 pub rounds-spec : {M : Type 1} → statement M
 rounds-spec =

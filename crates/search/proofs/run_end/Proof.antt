@@ -28,7 +28,15 @@ shared-slice-read-if1 c = omega arith
 
 returns : tie.Need-returns Inv-loop μ-loop
 unfolding rowFact
-returns c = let l = c .before .before .before .loop in record { within = l .inv .0; below = l .inv .1; above = λ k h g. omega (arith, c .before .before .before .before .pre .0 .rises (l .hi) k h g, c .if1 .taken) }
+returns c = let l = c .before .before .before .loop in record {
+  within = l .inv .0;
+  below = l .inv .1;
+  above = λ k h g. omega (
+    arith,
+    c .before .before .before .before .pre .0 .rises (l .hi) k h g,
+    c .if1 .taken,
+  );
+}
 
 add-hi : tie.Need-add-hi Inv-loop μ-loop
 add-hi c = omega arith

@@ -22,7 +22,8 @@ abbrev μ-loop : tie.MeasureT-loop
 room-at : (c : tie.Then1 Inv-loop μ-loop) → c .before .before .before .before .loop .s .to < 1024
 room-at c =
     let l = c .before .before .before .before .loop in
-    room _ (l .s) (l .j) (c .before .before .before .before .before .before .before .pre .few) (l .inv .0 .round .ordered) (c .before .before .before .loop-test .taken) (l .inv .0 .clear (l .j) (omega arith))
+    room _ (l .s) (l .j) (c .before .before .before .before .before .before .before .pre .few) (l .inv .0 .round .ordered) (c .before .before .before .loop-test .taken) (l .inv .0 .clear (l .j)
+    (omega arith))
 
 blank-requires : tie.Need-blank-requires Inv-loop μ-loop
 blank-requires c κs = search needs

@@ -24,7 +24,9 @@ same-length-2 : tie.Need-same-length-2
 same-length-2 c = search needs
 
 returns-2 : tie.Need-returns-2
-returns-2 c = let r = c .before .before .before .before .reach .result in answers-plain _ _ _ (r .facts) (r .state) _ _ _ (c .before .before .before .before .before .if1 .left) (c .before .before .before .before .reach .ensures) (c .before .before .answer .ensures)
+returns-2 c = let r =
+    c .before .before .before .before .reach .result in answers-plain _ _ _ (r .facts) (r .state) _ _ _ (c .before .before .before .before .before .if1 .left)
+    (c .before .before .before .before .reach .ensures) (c .before .before .answer .ensures)
 
 pub shortest-spec : {M : Type 1} → statement M
 shortest-spec =

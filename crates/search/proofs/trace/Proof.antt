@@ -26,19 +26,30 @@ abbrev μ-loop : tie.MeasureT-loop
 μ-loop row n w f path₀ mark queue top₀ i₀ j₀ path top i j = i
 
 -- bounds at the places of the loop
-room₁ : (c : tie.After-path-end Inv-loop μ-loop) → c .before .before .before .before .before .before .before .args .f ≤ length (set (c .before .before .before .before .before .before .before .args .path .now) (c .before .before .before .before .before .before .before .args .f - 1) (c .path-end .result))
+room₁ : (c : tie.After-path-end Inv-loop μ-loop)
+    → c .before .before .before .before .before .before .before .args .f ≤ length (set (c .before .before .before .before .before .before .before .args .path .now)
+    (c .before .before .before .before .before .before .before .args .f - 1) (c .path-end .result))
 room₁ c = let z = c .before .before .before .before .before .before .before in omega (arith, z .pre .room, length-set (z .args .path .now) (z .args .f - 1) (c .path-end .result))
 
 first-few : (c : tie.After-path-end Inv-loop μ-loop) → c .path-end .result < c .before .before .before .before .before .before .before .args .n
-first-few c = let z = c .before .before .before .before .before .before .before in reading-start _ _ _ (z .args .t) _ _ (z .pre .met) (z .args .path .now) (z .args .f - 1) _ (omega (arith, z .pre .some)) (z .pre .room) (c .path-end .ensures) .inside
+first-few c = let z =
+    c .before .before .before .before .before .before .before in reading-start _ _ _ (z .args .t) _ _ (z .pre .met) (z .args .path .now) (z .args .f - 1) _ (omega (arith, z .pre .some)) (z .pre .room)
+    (c .path-end .ensures) .inside
 
 reading-at : (c : tie.At-loop Inv-loop μ-loop) → let z = c .before .before .before .before .before .before .before .before in let l = c .loop in
-    Reading (z .args .row .now) (z .args .n) (z .args .w) (z .args .t) (z .args .f) (z .args .s) (z .pre .met) (set (c .before .before .before .before .before .before .before .before .args .path .now) (c .before .before .before .before .before .before .before .before .args .f - 1) (c .before .path-end .result)) (l .i) (l .j) (l .path)
-reading-at c = let z = c .before .before .before .before .before .before .before .before in c .loop .inv .1 (z .args .t) (z .args .s) (z .pre .met) refl (omega (arith, z .pre .some)) (c .before .path-end .ensures)
+    Reading (z .args .row .now) (z .args .n) (z .args .w) (z .args .t) (z .args .f) (z .args .s) (z .pre .met) (set (c .before .before .before .before .before .before .before .before .args .path .now)
+    (c .before .before .before .before .before .before .before .before .args .f - 1) (c .before .path-end .result)) (l .i) (l .j) (l .path)
+reading-at c = let z =
+    c .before .before .before .before .before .before .before .before in c .loop .inv .1 (z .args .t) (z .args .s) (z .pre .met) refl (omega (arith, z .pre .some)) (c .before .path-end .ensures)
 
 -- one step back
-goes : (c : tie.After-before2 Inv-loop μ-loop) (t : Fact) (s : State) → let z = c .before .before .before .before .before .before .before .before .before .before .before .before .before in let l = c .before .before .before .before .before .loop in (m : Met (z .args .row .now) (z .args .n) (z .args .w) t (z .args .f) s) → s .mark ≡ z .args .s .mark
-    → Reading _ _ _ t _ s m (set (c .before .before .before .before .before .before .before .before .before .before .before .before .before .args .path .now) (c .before .before .before .before .before .before .before .before .before .before .before .before .before .args .f - 1) (c .before .before .before .before .before .before .path-end .result)) (l .i) (l .j) (l .path) → Reading _ _ _ t _ s m (set (c .before .before .before .before .before .before .before .before .before .before .before .before .before .args .path .now) (c .before .before .before .before .before .before .before .before .before .before .before .before .before .args .f - 1) (c .before .before .before .before .before .before .path-end .result)) (l .i - 1) (c .before2 .result .at) (set (l .path) (l .i - 1) (c .before2 .result .at))
+goes : (c : tie.After-before2 Inv-loop μ-loop) (t : Fact) (s : State) → let z = c .before .before .before .before .before .before .before .before .before .before .before .before .before in
+    let l = c .before .before .before .before .before .loop in (m : Met (z .args .row .now) (z .args .n) (z .args .w) t (z .args .f) s) → s .mark ≡ z .args .s .mark
+    → Reading _ _ _ t _ s m (set (c .before .before .before .before .before .before .before .before .before .before .before .before .before .args .path .now)
+    (c .before .before .before .before .before .before .before .before .before .before .before .before .before .args .f - 1) (c .before .before .before .before .before .before .path-end .result))
+    (l .i) (l .j) (l .path) → Reading _ _ _ t _ s m (set (c .before .before .before .before .before .before .before .before .before .before .before .before .before .args .path .now)
+    (c .before .before .before .before .before .before .before .before .before .before .before .before .before .args .f - 1) (c .before .before .before .before .before .before .path-end .result))
+    (l .i - 1) (c .before2 .result .at) (set (l .path) (l .i - 1) (c .before2 .result .at))
 goes c t s m e d =
     let z = c .before .before .before .before .before .before .before .before .before .before .before .before .before in
     let l = c .before .before .before .before .before .loop in
@@ -48,7 +59,9 @@ goes c t s m e d =
     ∙ ap (λ (y : List ℕ). beforeOf (a .row .now) (a .n) (a .w) y (l .i) (rowFact (a .row .now) (l .j))) (sym e))
 
 next-few : (c : tie.After-before2 Inv-loop μ-loop) → c .before2 .result .at < c .before .before .before .before .before .before .before .before .before .before .before .before .before .args .n
-next-few c = let z = c .before .before .before .before .before .before .before .before .before .before .before .before .before in goes c (z .args .t) (z .args .s) (z .pre .met) refl (reading-at (c .before .before .before .before .before)) .inside
+next-few c = let z =
+    c .before .before .before .before .before .before .before .before .before .before .before .before .before in goes c (z .args .t) (z .args .s)
+    (z .pre .met) refl (reading-at (c .before .before .before .before .before)) .inside
 
 sub-i : tie.Need-sub-i Inv-loop μ-loop
 sub-i c = c .before .before .before .before .pre .some
@@ -83,10 +96,17 @@ cast-path-2 : tie.Need-cast-path-2 Inv-loop μ-loop
 cast-path-2 c = omega (arith, next-few c, c .before .before .before .before .before .before .before .before .before .before .before .before .before .pre .rising .few)
 
 mul-path-2 : tie.Need-mul-path-2 Inv-loop μ-loop
-mul-path-2 c = omega (arith, reading-at (c .before .before .before .before .before) .short, c .before .before .before .before .before .before .before .before .before .before .before .before .before .pre .room, c .before .before .before .before .before .before .before .before .before .before .before .before .before .good)
+mul-path-2 c =
+    omega (
+      arith,
+      reading-at (c .before .before .before .before .before) .short,
+      c .before .before .before .before .before .before .before .before .before .before .before .before .before .pre .room,
+      c .before .before .before .before .before .before .before .before .before .before .before .before .before .good,
+    )
 
 slice-write-path-2 : tie.Need-slice-write-path-2 Inv-loop μ-loop
-slice-write-path-2 c = omega (arith, reading-at (c .before .before .before .before .before) .short, reading-at (c .before .before .before .before .before) .long, room₁ (c .before .before .before .before .before .before))
+slice-write-path-2 c =
+    omega (arith, reading-at (c .before .before .before .before .before) .short, reading-at (c .before .before .before .before .before) .long, room₁ (c .before .before .before .before .before .before))
 
 loop-less : tie.Need-loop-less Inv-loop μ-loop
 loop-less c = omega (arith, c .before .before .before .before .loop-test .taken)
@@ -95,7 +115,9 @@ loop-again : tie.Need-loop-again Inv-loop μ-loop
 loop-again c = (c .before2 .ensures .queued, λ t s m e g h. goes c t s m e (c .before .before .before .before .before .loop .inv .1 t s m e g h))
 
 same-length : tie.Need-same-length Inv-loop μ-loop
-same-length c = reading-at (c .before) .long ∙ length-set (c .before .before .before .before .before .before .before .before .before .args .path .now) (c .before .before .before .before .before .before .before .before .before .args .f - 1) (c .before .before .path-end .result)
+same-length c =
+    reading-at (c .before) .long ∙ length-set (c .before .before .before .before .before .before .before .before .before .args .path .now)
+    (c .before .before .before .before .before .before .before .before .before .args .f - 1) (c .before .before .path-end .result)
 
 returns : tie.Need-returns Inv-loop μ-loop
 returns c =

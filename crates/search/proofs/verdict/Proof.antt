@@ -26,7 +26,12 @@ needed-for-requires c κs = search needs
 
 returns-2 : tie.Need-returns-2
 unfolding asked orElse questionFault
-returns-2 c = let e = sym (c .before .before .before .before .before .fault .ensures) ∙ c .before .before .before .enum-told .given .1 in rw (e, le-leb _ 1024 (c .before .before .if1 .left), lt-leb (needed _) _ (rw (c .before .needed-for .ensures) at (c .if2 .taken)))
+returns-2 c = let e =
+    sym (c .before .before .before .before .before .fault .ensures) ∙ c .before .before .before .enum-told .given .1 in rw (
+      e,
+      le-leb _ 1024 (c .before .before .if1 .left),
+      lt-leb (needed _) _ (rw (c .before .needed-for .ensures) at (c .if2 .taken)),
+    )
 
 returns-3 : tie.Need-returns-3
 unfolding asked orElse questionFault
@@ -34,7 +39,12 @@ returns-3 c = let e = sym (c .before .before .before .fault .ensures) ∙ c .bef
 
 returns-4 : tie.Need-returns-4
 unfolding asked orElse questionFault
-returns-4 c = let e = sym (c .before .before .before .before .before .fault .ensures) ∙ c .before .before .before .enum-told .given .1 in rw (e, le-leb _ 1024 (c .before .before .if1 .left), le-leb (needed _) _ (rw (c .before .needed-for .ensures) at (c .if2 .left)))
+returns-4 c = let e =
+    sym (c .before .before .before .before .before .fault .ensures) ∙ c .before .before .before .enum-told .given .1 in rw (
+      e,
+      le-leb _ 1024 (c .before .before .if1 .left),
+      le-leb (needed _) _ (rw (c .before .needed-for .ensures) at (c .if2 .left)),
+    )
 
 pub verdict-spec : {M : Type 1} → statement M
 verdict-spec =

@@ -41,7 +41,7 @@ shared-slice-read-if1 c = search needs
 
 returns : tie.Need-returns
 unfolding lineVerdict firstEarned earns
-returns c = 
+returns c =
     let s = c .before .before .before .before .before .before in
     let b = now (s .args .bytes) in
     let i = s .args .i in
@@ -56,7 +56,7 @@ judge-requires c κs = search needs
 
 returns-2 : tie.Need-returns-2
 unfolding lineVerdict
-returns-2 c = 
+returns-2 c =
     let s = c .before .before .before .before .before .before .before in
     let b = now (s .args .bytes) in
     let i = s .args .i in
@@ -65,7 +65,7 @@ returns-2 c =
     let f₃ = c .before .before .before .field-at3 .ensures in
     let laid : laidOut 3 b (16 * i) ≡ true = not-false _ (sym (torn-line b (16 * i)) ∙ rw (f₁, f₂, f₃) at (c .before .if1 .left)) in
     let f : fact (c .before .before .before .before .before .field-at .result) (c .before .before .before .before .field-at2 .result) (c .before .before .before .field-at3 .result) ≡ lineFact b i =
-        rw (f₁, f₂, f₃) (laid-fact b i laid) in
+    rw (f₁, f₂, f₃) (laid-fact b i laid) in
     record { verdict = c .judge .ensures ∙ rw (f, laid) (sym (judged-line (lineFact b) i (s .args .last) (s .pre .before))); fact = λ z. f }
 
 pub judge-line-spec : {M : Type 1} → statement M

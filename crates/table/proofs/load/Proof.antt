@@ -30,21 +30,21 @@ abbrev μ-loop : tie.MeasureT-loop
 
 returns : tie.Need-returns Inv-loop μ-loop
 unfolding tableScan
-returns c = 
+returns c =
     let b = now (c .before .before .before .args .bytes) in
     let e : tableScan b ≡ Stops Size 0 = rw (sized-torn 16 16384 (length b) (c .if1 .taken)) in
     (sym (scan-table b ∙ e), loaded-none b Size e (now (c .before .before .before .args .row)))
 
 returns-2 : tie.Need-returns-2 Inv-loop μ-loop
 unfolding tableScan
-returns-2 c = 
+returns-2 c =
     let b = now (c .before .before .before .before .args .bytes) in
     let e : tableScan b ≡ Stops Size 0 = rw (sized-large 16 16384 (length b) (c .if2 .taken)) in
     (sym (scan-table b ∙ e), loaded-none b Size e (now (c .before .before .before .before .args .row)))
 
 loop-holds : tie.Need-loop-holds Inv-loop μ-loop
 unfolding tableScan itemsFrom flat
-loop-holds c = 
+loop-holds c =
     let b = now (c .before .before .before .before .args .bytes) in
     (omega arith, rw (sized-fits 16 16384 (length b) (c .before .if1 .left) (c .if2 .left), sub-zero), (λ h. absurd (omega arith)), refl, refl)
 
@@ -64,13 +64,13 @@ same-length : tie.Need-same-length Inv-loop μ-loop
 same-length c = c .before .before .before .before .before .loop .inv .3
 
 returns-3 : tie.Need-returns-3 Inv-loop μ-loop
-returns-3 c = 
+returns-3 c =
     let s = c .before .before .before .before .before .before .before .before .before .before in
     let l = c .before .before .before .before .before .loop in
     let b = now (s .args .bytes) in
     let r = c .before .v .given .0 .0 in
     let e : tableScan b ≡ Stops r (l .i + 1) =
-        l .inv .1 ∙ scan-stop (lineVerdict b) (length b / 16) (l .i) (omega arith) (sym (c .before .before .before .judge-line .ensures .verdict) ∙ c .before .v .given .1) in
+    l .inv .1 ∙ scan-stop (lineVerdict b) (length b / 16) (l .i) (omega arith) (sym (c .before .before .before .judge-line .ensures .verdict) ∙ c .before .v .given .1) in
     (sym (scan-table b ∙ e), l .inv .4 ∙ rw (loaded-stop b r (l .i) e))
 
 enum-told : tie.Need-enum-told Inv-loop μ-loop
@@ -86,7 +86,7 @@ loop-less : tie.Need-loop-less Inv-loop μ-loop
 loop-less c = omega arith
 
 loop-again : tie.Need-loop-again Inv-loop μ-loop
-loop-again c = 
+loop-again c =
     let s = c .before .before .before .before .before .before .before .before .before .before .before .before .before .before in
     let l = c .before .before .before .before .before .before .before .before .before .loop in
     let b = now (s .args .bytes) in
@@ -97,9 +97,13 @@ loop-again c =
     let e = l .inv .1 ∙ scan-on (lineVerdict b) (length b / 16) (l .i) (omega arith) (sym (j .verdict) ∙ told) in
     let i : l .i + 1 - 1 ≡ l .i = omega arith in
     let long : length (rowOf (itemsFrom (lineFact b) 0 (l .i))) ≡ 3 * l .i = rw (row-length, items-length) in
-    let stored = over-more (rowOf (itemsFrom (lineFact b) 0 (l .i))) (terms (lineFact b (l .i))) (now (s .args .row)) (3 * l .i) long (omega arith) in
-    (omega arith, e, (λ h. rw i f), omega (arith, p .kept .1 .0),
-      p .ensures ∙ rw (f, l .inv .4) (stored ∙ rw (flat-more terms (lineFact b) (l .i))))
+    let stored = over-more (rowOf (itemsFrom (lineFact b) 0 (l .i))) (terms (lineFact b (l .i))) (now (s .args .row)) (3 * l .i) long (omega arith) in (
+      omega arith,
+      e,
+      (λ h. rw i f),
+      omega (arith, p .kept .1 .0),
+      p .ensures ∙ rw (f, l .inv .4) (stored ∙ rw (flat-more terms (lineFact b) (l .i))),
+    )
 
 cast-t20 : tie.Need-cast-t20 Inv-loop μ-loop
 cast-t20 c = omega arith
@@ -108,7 +112,7 @@ same-length-2 : tie.Need-same-length-2 Inv-loop μ-loop
 same-length-2 c = c .before .loop .inv .3
 
 returns-4 : tie.Need-returns-4 Inv-loop μ-loop
-returns-4 c = 
+returns-4 c =
     let s = c .before .before .before .before .before .before in
     let l = c .before .loop in
     let b = now (s .args .bytes) in

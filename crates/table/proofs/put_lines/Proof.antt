@@ -16,7 +16,7 @@ use Rattle.table.proofs.put_lines.Statement.{statement}
 use Rattle.table.proofs.put_lines.Tie as tie
 
 abbrev Inv-loop : tie.InvT-loop
-Inv-loop row n out₀ i₀ at₀ from₀ out i at from = 
+Inv-loop row n out₀ i₀ at₀ from₀ out i at from =
     (i ≤ n) × (at ≡ 16 * i) × (from ≡ 3 * i) × (length out ≡ length out₀) × (out ≡ over (tableBytes (itemsFrom (rowFact row) 0 i)) out₀)
 
 abbrev μ-loop : tie.MeasureT-loop
@@ -66,7 +66,7 @@ loop-less : tie.Need-loop-less Inv-loop μ-loop
 loop-less c = omega arith
 
 loop-again : tie.Need-loop-again Inv-loop μ-loop
-loop-again c = 
+loop-again c =
     let s = c .before .before .before .before .before .before .before .before .before in
     let l = c .before .before .before .before .before .before .loop in
     let row = now (s .args .row) in

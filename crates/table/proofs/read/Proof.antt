@@ -32,7 +32,7 @@ mul-count : tie.Need-mul-count
 mul-count c = search needs
 
 returns : tie.Need-returns
-returns c = 
+returns c =
     let b = now (c .before .before .before .before .before .before .before .before .before .args .bytes) in
     let p = scan-passes (tableOf b) (c .before .before .n .given .0 .0) (sym (c .before .before .before .before .before .load .ensures .0) ∙ c .before .before .n .given .1) in
     let row = now (c .before .before .before .before .before .before .before .before .before .args .row) in
@@ -43,14 +43,14 @@ slice-aggregate-copy : tie.Need-slice-aggregate-copy
 slice-aggregate-copy c = search needs
 
 copy-requires : tie.Need-copy-requires
-copy-requires c κs = 
+copy-requires c κs =
     let b = now (c .before .before .before .before .before .before .before .before .before .before .before .args .bytes) in
     let p = scan-passes (tableOf b) (c .before .before .before .before .n .given .0 .0) (sym (c .before .before .before .before .before .before .before .load .ensures .0) ∙ c .before .before .before .before .n .given .1) in
     let few = accepted-size b (p .0) (p .1) in
     (omega (arith, few .1, p .2, c .before .before .before .before .before .before .before .load .kept .1 .0), omega arith)
 
 returns-2 : tie.Need-returns-2
-returns-2 c = 
+returns-2 c =
     let b = now (c .before .before .before .before .before .before .before .before .args .bytes) in
     let e = settle-refused rowOf (tableOf b) (now (c .before .before .before .before .before .before .before .before .args .row)) _ _ (scan-stops (tableOf b) _ _ (sym (c .before .before .before .before .load .ensures .0) ∙ c .before .r .given .1)) in
     (sym (e .0), sym (e .1))
@@ -59,7 +59,7 @@ same-length : tie.Need-same-length
 same-length c = search needs
 
 returns-3 : tie.Need-returns-3
-returns-3 c = 
+returns-3 c =
     let b = now (c .before .before .before .before .before .before .before .before .before .before .before .before .before .before .args .bytes) in
     let p = scan-passes (tableOf b) (c .before .before .before .before .before .before .before .n .given .0 .0) (sym (c .before .before .before .before .before .before .before .before .before .before .load .ensures .0) ∙ c .before .before .before .before .before .before .before .n .given .1) in
     let n = c .before .before .before .before .before .before .before .n .given .0 .0 in

@@ -30,7 +30,7 @@ returns-2 c = let row = now (c .before .before .before .args .row) in sym (scan-
 
 loop-holds : tie.Need-loop-holds Inv-loop μ-loop
 unfolding rowScan
-loop-holds c = 
+loop-holds c =
     let row = now (c .before .before .before .args .row) in
     (omega arith, rw (sized-fits 3 3072 (length row) (c .before .if1 .left) (c .if2 .left), sub-zero), (λ h. absurd (omega arith)))
 
@@ -51,7 +51,7 @@ cast-t15 c = omega arith
 
 returns-3 : tie.Need-returns-3 Inv-loop μ-loop
 unfolding rowVerdict
-returns-3 c = 
+returns-3 c =
     let l = c .before .before .before .before .before .before .loop in
     let row = now (c .before .before .before .before .before .before .before .before .before .before .args .row) in
     let e : rowVerdict row (l .i) ≡ _ = judged-line (rowFact row) (l .i) (l .last) (l .inv .2) ∙ rw (← c .before .before .before .before .row-fact .ensures) (sym (c .before .before .before .judge .ensures)) ∙ c .before .r .given .1 in
@@ -68,7 +68,7 @@ loop-less c = omega arith
 
 loop-again : tie.Need-loop-again Inv-loop μ-loop
 unfolding rowVerdict
-loop-again c = 
+loop-again c =
     let l = c .before .before .before .before .before .loop in
     let row = now (c .before .before .before .before .before .before .before .before .before .args .row) in
     let e : rowVerdict row (l .i) ≡ _ = judged-line (rowFact row) (l .i) (l .last) (l .inv .2) ∙ rw (← c .before .before .before .row-fact .ensures) (sym (c .before .before .judge .ensures)) ∙ c .enum-told .given .1 in
@@ -79,7 +79,7 @@ cast-t16 : tie.Need-cast-t16 Inv-loop μ-loop
 cast-t16 c = omega arith
 
 returns-4 : tie.Need-returns-4 Inv-loop μ-loop
-returns-4 c = 
+returns-4 c =
     let l = c .before .loop in
     let row = now (c .before .before .before .before .before .args .row) in
     sym (scan-row row ∙ l .inv .1 ∙ scan-end (rowVerdict row) (length row / 3) (l .i) (omega arith))

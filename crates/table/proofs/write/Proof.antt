@@ -26,21 +26,21 @@ mul-if1 : tie.Need-mul-if1
 mul-if1 c = search needs
 
 returns : tie.Need-returns
-returns c = 
+returns c =
     let row = now (c .before .before .before .before .before .before .before .args .row) in
     let p = scan-passes (tableOfRow row) (c .before .before .n .given .0 .0) (sym (c .before .before .before .before .scan-row .ensures) ∙ c .before .before .n .given .1) in
     let e = settle-short tableBytes (tableOfRow row) (now (c .before .before .before .before .before .before .before .args .out)) (p .0) (p .1) (rw bytes-length (omega (arith, p .2))) in
     (sym (e .0), sym (e .1))
 
 put-lines-requires : tie.Need-put-lines-requires
-put-lines-requires c κs = 
+put-lines-requires c κs =
     let row = now (c .before .before .before .before .before .before .before .before .args .row) in
     let p = scan-passes (tableOfRow row) (c .before .before .before .n .given .0 .0) (sym (c .before .before .before .before .before .scan-row .ensures) ∙ c .before .before .before .n .given .1) in
     let few = row-size row (p .0) (p .1) in
     (omega (arith, few .1, p .2), omega (arith, few .0, p .2), omega arith)
 
 returns-2 : tie.Need-returns-2
-returns-2 c = 
+returns-2 c =
     let row = now (c .before .before .before .before .before .before .args .row) in
     let e = settle-refused tableBytes (tableOfRow row) (now (c .before .before .before .before .before .before .args .out)) _ _ (scan-stops (tableOfRow row) _ _ (sym (c .before .before .before .scan-row .ensures) ∙ c .before .r .given .1)) in
     (sym (e .0), sym (e .1))
@@ -49,7 +49,7 @@ same-length : tie.Need-same-length
 same-length c = search needs
 
 returns-3 : tie.Need-returns-3
-returns-3 c = 
+returns-3 c =
     let row = now (c .before .before .before .before .before .before .before .before .before .before .before .args .row) in
     let p = scan-passes (tableOfRow row) (c .before .before .before .before .before .before .n .given .0 .0) (sym (c .before .before .before .before .before .before .before .before .scan-row .ensures) ∙ c .before .before .before .before .before .before .n .given .1) in
     let out = now (c .before .before .before .before .before .before .before .before .before .before .before .args .out) in

@@ -1,0 +1,110 @@
+/* The fact box's calls for a C program.
+ *
+ * A table is bytes: one line of 16 bytes a fact, three fields of five columns (subject, predicate, object: decimal numbers,
+ * right-justified, spaces before them, no leading zero), then byte 10. Lines ascend strictly by subject, then predicate,
+ * then object. At most 1,024 lines; the empty table is a table.
+ *
+ *   1 subclass, 2 subproperty, 3 domain, 4 range, 5 type      the vocabulary: predicates only
+ *   6 to 39999                                                 names: subject, predicate or object
+ *   40000 to 59999                                             literals: subject or object
+ *   60000 to 65535                                             blank nodes: refused
+ *
+ * A derivation is bytes: lines of 31 bytes, six such fields (rule, first premise, second premise, subject, predicate,
+ * object), then byte 10. Rule 0 is a table fact, with premises 0 and 0. Rules 1 to 6 have line numbers, counted from 1, as
+ * premises. 1 to 2,047 lines.
+ *
+ *   1. (A sp B), (B sp C) give (A sp C).          4. (A sc B), (X type A) give (X type B).
+ *   2. (A sp B), (X A Y) give (X B Y).            5. (A dom B), (X A Y) give (X type B).
+ *   3. (A sc B), (B sc C) give (A sc C).          6. (A range B), (X A Y) give (Y type B).
+ *
+ * For every call:
+ * - It ends, whatever it is given, and it needs no test of its input beforehand: what is wrong gets a refusal.
+ * - The result has three numbers: number, place, count (factbox_number, factbox_place, factbox_count).
+ * - A refusal (1 to 11) has count 0 and changes no lent memory.
+ * - What is done is written from the front of the lent memory; what lies behind it keeps its value.
+ * - A pointer may be NULL where its length is 0. Bytes may lie at any address; a row must be aligned for uint32_t.
+ * - `output` and `row` that are written must not overlap what the same call reads: no overlap is tested for.
+ * - No call keeps a pointer, allocates, or has memory of its own between calls, so calls may run at the same time as
+ *   long as none writes memory that another reads or writes. A call takes at most FACTBOX_STACK_MAX bytes of stack.
+ * - The library needs memcpy, memmove and memset and nothing else.
+ */
+#ifndef FACTBOX_H
+#define FACTBOX_H
+
+#include <stddef.h>
+#include <stdint.h>
+
+#ifdef __cplusplus
+extern "C" {
+#endif
+
+/* The numbers. Where no place is named, it is 0. A line is counted from 1. */
+enum {
+    FACTBOX_DONE = 0,       /* reading or writing is done; count: the table's facts */
+    FACTBOX_SIZE = 1,       /* table not a multiple of 16 bytes, or above 16,384; row not a multiple of 3 numbers, or above 3,072 */
+    FACTBOX_COLUMN = 2,     /* a field or the line end is not as laid out; place: the line */
+    FACTBOX_TERM = 3,       /* a number is 0 or above 65535; place: the line, or 0 for the triple put */
+    FACTBOX_BLANK = 4,      /* a number is 60000 to 65535; place: the line, or 0 for the triple put */
+    FACTBOX_PART = 5,       /* vocabulary as subject or object, or a literal as predicate; place: the line, or 0 for the triple put */
+    FACTBOX_ORDER = 6,      /* a fact is not above the one before it; place: the line */
+    FACTBOX_ALLOWANCE = 7,  /* the allowance is above 1,024 */
+    FACTBOX_SHORT = 8,      /* the lent memory is too short */
+    FACTBOX_FORM = 9,       /* a derivation of 0 bytes, not a multiple of 31, or above 63,457; or, with its line as place, a badly laid out line */
+    FACTBOX_STEP = 10,      /* a line is neither a table line nor a rule's result; place: the first such line */
+    FACTBOX_END = 11,       /* the last line is not the triple put; place: the last line */
+    FACTBOX_YES = 90,       /* the triple follows, from no more table facts than allowed; count: the fewest it follows from */
+    FACTBOX_NO = 91,        /* the triple does not follow; count: 0 */
+    FACTBOX_LONG = 92,      /* the triple follows, but needs more table facts than allowed; count: the fewest it follows from */
+    FACTBOX_ACCEPTED = 93   /* the derivation is accepted; count: its table lines */
+};
+
+/* Sizes. */
+enum {
+    FACTBOX_FACTS_MAX = 1024,           /* facts of a table, and the largest allowance */
+    FACTBOX_TABLE_LINE = 16,            /* bytes */
+    FACTBOX_TABLE_MAX = 16384,          /* bytes */
+    FACTBOX_ROW_MAX = 3072,             /* numbers */
+    FACTBOX_DERIVATION_LINE = 31,       /* bytes */
+    FACTBOX_DERIVATION_LINES_MAX = 2047,
+    FACTBOX_DERIVATION_MAX = 63457,     /* bytes */
+    FACTBOX_STACK_MAX = 65536           /* bytes */
+};
+
+/* Whether (subject predicate object) follows from the table, from how few of its facts, and a derivation with that many.
+ * `limit` is the allowance: how many table facts it may take, 0 to 1,024. `output` has at least factbox_output_size(limit)
+ * bytes. YES writes 2 * count - 1 lines of 31 bytes; nothing else writes.
+ * Tried in this order: the table (1; then its lines, each for 2, 3, 4, 5, 6), the triple (3, 4, 5), 7, 8. */
+uint64_t factbox_question(const uint8_t *table, size_t table_len,
+                          uint32_t subject, uint32_t predicate, uint32_t object,
+                          uint32_t limit, uint8_t *output, size_t output_len);
+
+/* Whether the derivation is one of (subject predicate object) from the table. Unused lines and any sound order are accepted.
+ * The count has all table lines, used or not; a fact that stands on two lines counts twice.
+ * Tried in this order: the table, the triple (3, 4, 5), 9 over all lines, 10, 11. */
+uint64_t factbox_check(const uint8_t *table, size_t table_len,
+                       uint32_t subject, uint32_t predicate, uint32_t object,
+                       const uint8_t *derivation, size_t derivation_len);
+
+/* Reads the table into a row of three numbers a fact. `row_len` is in numbers.
+ * Tried in this order: the table, 8. */
+uint64_t factbox_read(const uint8_t *table, size_t table_len, uint32_t *row, size_t row_len);
+
+/* Writes a row of three numbers a fact as a table. `row_len` is in numbers. The place of a refusal is the fact's number.
+ * Tried in this order: 1; then the facts, each for 3, 4, 5, 6; 8. */
+uint64_t factbox_write(const uint32_t *row, size_t row_len, uint8_t *output, size_t output_len);
+
+/* The parts of a result: bits 0-7 number, 8-31 place, 32-47 count, 48-63 zero. */
+static inline unsigned factbox_number(uint64_t result) { return (unsigned)(result & 0xff); }
+static inline unsigned factbox_place(uint64_t result) { return (unsigned)(result >> 8 & 0xffffff); }
+static inline unsigned factbox_count(uint64_t result) { return (unsigned)(result >> 32 & 0xffff); }
+
+/* Bytes that a question with this allowance needs lent: 31 * (2 * limit - 1), and 0 for limit 0. */
+static inline size_t factbox_output_size(uint32_t limit) {
+    return limit == 0 ? 0 : FACTBOX_DERIVATION_LINE * (2 * (size_t)limit - 1);
+}
+
+#ifdef __cplusplus
+}
+#endif
+
+#endif

@@ -1,0 +1,170 @@
+/* The memory of the C interface: empty slices, NULL with length 0, any alignment, and buffers that begin or end at a page
+ * that may not be touched. Inputs lie on pages that may not be written. And the stack that a call takes. */
+#include "factbox.h"
+#include "test.h"
+
+#include <pthread.h>
+#include <stdlib.h>
+#include <string.h>
+#include <sys/mman.h>
+#include <sys/wait.h>
+#include <unistd.h>
+
+/* Memory between two pages that may not be touched. */
+typedef struct { uint8_t *begin, *end; } arena;
+
+enum { ROOM = 1 << 16 };
+
+static arena new_arena(void) {
+    size_t page = (size_t)sysconf(_SC_PAGESIZE);
+    uint8_t *all = mmap(NULL, ROOM + 2 * page, PROT_NONE, MAP_PRIVATE | MAP_ANONYMOUS, -1, 0);
+    if (all == MAP_FAILED || mprotect(all + page, ROOM, PROT_READ | PROT_WRITE)) {
+        perror("test_memory");
+        exit(2);
+    }
+    return (arena){all + page, all + page + ROOM};
+}
+
+/* Puts an input at the arena's begin, shifted by `shift` bytes, or at its very end; the arena can't be written then. */
+static const void *put(arena a, const void *input, size_t len, int at_end, size_t shift) {
+    uint8_t *at = at_end ? a.end - len : a.begin + shift;
+    mprotect(a.begin, ROOM, PROT_READ | PROT_WRITE);
+    if (len) memcpy(at, input, len);
+    mprotect(a.begin, ROOM, PROT_READ);
+    return at;
+}
+
+/* Lends memory of `len` bytes, all bytes of the arena being 0x5a. */
+static void *lend(arena a, size_t len, int at_end, size_t shift) {
+    memset(a.begin, 0x5a, ROOM);
+    return at_end ? a.end - len : a.begin + shift;
+}
+
+/* Nothing but the `len` bytes from `at` was written. */
+static int untouched(arena a, const void *at, size_t len) {
+    const uint8_t *from = at, *to = from + len;
+    for (const uint8_t *b = a.begin; b < a.end; b++)
+        if ((b < from || b >= to) && *b != 0x5a) return 0;
+    return 1;
+}
+
+static void guard_page_faults(void) {
+    arena a = new_arena();
+    for (int past = 0; past < 2; past++) {
+        fflush(NULL);
+        pid_t child = fork();
+        if (child == 0) {
+            freopen("/dev/null", "w", stderr);
+            *(volatile uint8_t *)(past ? a.end : a.begin - 1) = 1;
+            _exit(0);
+        }
+        int status = 0;
+        EXPECT(child > 0 && waitpid(child, &status, 0) == child && status != 0);
+    }
+}
+
+static void empty_and_null(void) {
+    static const uint8_t table[] = EXAMPLE_TABLE;
+    uint8_t byte;
+    uint32_t number;
+    arena a = new_arena();
+    const uint8_t *const empty[] = {NULL, &byte, a.begin - 1, a.end};
+    for (size_t i = 0; i < sizeof empty / sizeof *empty; i++) {
+        const uint8_t *e = empty[i];
+        uint8_t *out = (uint8_t *)(uintptr_t)e;
+        uint32_t *row = i == 1 ? &number : i == 2 ? (uint32_t *)(void *)(a.begin - 4) : (uint32_t *)(void *)out;
+        EXPECT(factbox_question(e, 0, 10, 1, 11, 0, out, 0) == FACTBOX_NO);
+        EXPECT(factbox_question(e, 0, 10, 1, 11, 1, out, 0) == FACTBOX_SHORT);
+        EXPECT(factbox_question(table, 64, 10, 5, 12, 0, out, 0) == (FACTBOX_LONG | 4ull << 32));
+        EXPECT(factbox_check(e, 0, 10, 1, 11, e, 0) == FACTBOX_FORM);
+        EXPECT(factbox_check(table, 64, 10, 5, 12, e, 0) == FACTBOX_FORM);
+        EXPECT(factbox_check(e, 0, 10, 5, 12, (const uint8_t *)EXAMPLE_DERIVATION, 31 * 7) == (FACTBOX_STEP | 1 << 8));
+        EXPECT(factbox_read(e, 0, row, 0) == FACTBOX_DONE);
+        EXPECT(factbox_read(table, 64, row, 0) == FACTBOX_SHORT);
+        EXPECT(factbox_write(row, 0, out, 0) == FACTBOX_DONE);
+        EXPECT(factbox_write((const uint32_t[]){10, 1, 11}, 3, out, 0) == FACTBOX_SHORT);
+    }
+}
+
+/* All four calls on a chain of `facts` facts, with every buffer at a guard page or at any alignment, give what they give on
+ * ordinary memory. */
+static void placed(uint32_t facts, int at_end, size_t shift) {
+    static uint8_t table[FACTBOX_TABLE_MAX], lines[FACTBOX_DERIVATION_MAX];
+    static uint32_t row[FACTBOX_ROW_MAX];
+    static arena input, other, output;
+    if (!input.begin) input = new_arena(), other = new_arena(), output = new_arena();
+    for (uint32_t i = 0; i < facts; i++) row[3 * i] = 6 + i, row[3 * i + 1] = FACTBOX_SIZE, row[3 * i + 2] = 7 + i;
+    size_t bytes = FACTBOX_TABLE_LINE * (size_t)facts, numbers = 3 * (size_t)facts, room = factbox_output_size(facts);
+    uint64_t count = (uint64_t)facts << 32;
+    EXPECT(factbox_write(row, numbers, table, bytes) == count);
+    EXPECT(factbox_question(table, bytes, 6, 1, 6 + facts, facts, lines, room) == (facts ? FACTBOX_YES | count : FACTBOX_NO));
+
+    const uint8_t *t = put(input, table, bytes, at_end, shift);
+    uint8_t *out = lend(output, room, at_end, shift);
+    EXPECT(factbox_question(t, bytes, 6, 1, 6 + facts, facts, out, room) == (facts ? FACTBOX_YES | count : FACTBOX_NO));
+    EXPECT(memcmp(out, lines, room) == 0 && untouched(output, out, room));
+    const uint8_t *d = put(other, lines, room, at_end, shift);
+    EXPECT(factbox_check(t, bytes, 6, 1, 6 + facts, d, room) == (facts ? FACTBOX_ACCEPTED | count : FACTBOX_FORM));
+
+    /* memory that is one too short is not touched */
+    if (facts) {
+        out = lend(output, room - 1, at_end, shift);
+        EXPECT(factbox_question(t, bytes, 6, 1, 6 + facts, facts, out, room - 1) == FACTBOX_SHORT);
+        EXPECT(untouched(output, out, 0));
+    }
+
+    size_t whole = shift / 4 * 4;
+    uint32_t *filled = lend(output, 4 * numbers, at_end, whole);
+    EXPECT(factbox_read(t, bytes, filled, numbers) == count);
+    EXPECT(memcmp(filled, row, 4 * numbers) == 0 && untouched(output, filled, 4 * numbers));
+    const uint32_t *r = put(input, row, 4 * numbers, at_end, whole);
+    out = lend(output, bytes, at_end, shift);
+    EXPECT(factbox_write(r, numbers, out, bytes) == count);
+    EXPECT(memcmp(out, table, bytes) == 0 && untouched(output, out, bytes));
+}
+
+/* The calls on a full table, one at a time. */
+static void *call(void *which) {
+    static uint8_t table[FACTBOX_TABLE_MAX], lines[FACTBOX_DERIVATION_MAX];
+    static uint32_t row[FACTBOX_ROW_MAX];
+    for (uint32_t i = 0; i < FACTBOX_FACTS_MAX; i++) row[3 * i] = 6 + i, row[3 * i + 1] = 1, row[3 * i + 2] = 7 + i;
+    switch (*(int *)which) {
+    case 0: break;
+    case 1: factbox_write(row, FACTBOX_ROW_MAX, table, sizeof table); break;
+    case 2: factbox_read(table, sizeof table, row, FACTBOX_ROW_MAX); break;
+    case 3: factbox_question(table, sizeof table, 6, 1, 1030, 1024, lines, sizeof lines); break;
+    default: factbox_check(table, sizeof table, 6, 1, 1030, lines, sizeof lines); break;
+    }
+    return NULL;
+}
+
+/* How much of a thread's stack a call writes, beyond what a thread that calls nothing does. */
+static void stack(void) {
+    enum { STACK = 1 << 20, MARK = 0xa5 };
+    size_t idle = 0;
+    for (int which = 0; which <= 4; which++) {
+        uint8_t *memory = mmap(NULL, STACK, PROT_READ | PROT_WRITE, MAP_PRIVATE | MAP_ANONYMOUS, -1, 0);
+        memset(memory, MARK, STACK);
+        pthread_attr_t attributes;
+        pthread_t thread;
+        EXPECT(pthread_attr_init(&attributes) == 0 && pthread_attr_setstack(&attributes, memory, STACK) == 0);
+        EXPECT(pthread_create(&thread, &attributes, call, &which) == 0 && pthread_join(thread, NULL) == 0);
+        size_t spare = 0;
+        while (spare < STACK && memory[spare] == MARK) spare++;
+        if (which == 0) idle = STACK - spare;
+        EXPECT(STACK - spare <= idle + FACTBOX_STACK_MAX);
+        munmap(memory, STACK);
+    }
+}
+
+int main(void) {
+    static const uint32_t sizes[] = {0, 1, 2, 3, 7, 64, 1023, 1024};
+    guard_page_faults();
+    empty_and_null();
+    for (size_t i = 0; i < sizeof sizes / sizeof *sizes; i++) {
+        placed(sizes[i], 1, 0);
+        for (size_t shift = 0; shift < 16; shift++) placed(sizes[i], 0, shift);
+    }
+    stack();
+    return finish("test_memory");
+}

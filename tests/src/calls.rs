@@ -1,0 +1,29 @@
+//! The calls as C sees them, and the program: what two implementations are compared by.
+use crate::facts::Fact;
+use crate::parts::Parts;
+
+pub trait Calls {
+    fn factbox_question(&self, table: &[u8], triple: Fact, allowance: u32, paper: &mut [u8]) -> u64;
+    fn factbox_check(&self, table: &[u8], triple: Fact, derivation: &[u8]) -> u64;
+    fn factbox_read(&self, table: &[u8], row: &mut [u32]) -> u64;
+    fn factbox_write(&self, row: &[u32], output: &mut [u8]) -> u64;
+    fn factbox(&self, input: &[u8]) -> Vec<u8>;
+}
+
+impl<T: Parts> Calls for T {
+    fn factbox_question(&self, table: &[u8], triple: Fact, allowance: u32, paper: &mut [u8]) -> u64 {
+        self.question(table, triple, allowance, paper).packed()
+    }
+    fn factbox_check(&self, table: &[u8], triple: Fact, derivation: &[u8]) -> u64 {
+        self.check(table, triple, derivation).packed()
+    }
+    fn factbox_read(&self, table: &[u8], row: &mut [u32]) -> u64 {
+        self.read(table, row).packed()
+    }
+    fn factbox_write(&self, row: &[u32], output: &mut [u8]) -> u64 {
+        self.write(row, output).packed()
+    }
+    fn factbox(&self, input: &[u8]) -> Vec<u8> {
+        self.program(input)
+    }
+}

@@ -1,0 +1,67 @@
+//! Terms, facts and answers (document 01, "Terms and facts" and the table of numbers).
+
+/// Subject, predicate, object. 32 bits wide, so that a number that is no term can be put, and refused.
+pub type Fact = [u32; 3];
+
+pub const SC: u32 = 1;
+pub const SP: u32 = 2;
+pub const DOM: u32 = 3;
+pub const RANGE: u32 = 4;
+pub const TYPE: u32 = 5;
+
+pub fn is_vocabulary(term: u32) -> bool {
+    (1..=5).contains(&term)
+}
+
+pub fn is_name(term: u32) -> bool {
+    (6..=39999).contains(&term)
+}
+
+pub fn is_literal(term: u32) -> bool {
+    (40000..=59999).contains(&term)
+}
+
+pub fn is_blank(term: u32) -> bool {
+    (60000..=65535).contains(&term)
+}
+
+/// Subject and object are each a name or a literal, the predicate is a name or one of 1 to 5.
+pub fn well_formed([s, p, o]: Fact) -> bool {
+    (is_name(s) || is_literal(s)) && (is_name(p) || is_vocabulary(p)) && (is_name(o) || is_literal(o))
+}
+
+/// A data fact: predicate a name or type.
+pub fn is_data([_, p, _]: Fact) -> bool {
+    is_name(p) || p == TYPE
+}
+
+pub const DONE: u32 = 0;
+pub const YES: u32 = 90;
+pub const NO: u32 = 91;
+pub const LONG: u32 = 92;
+pub const ACCEPTED: u32 = 93;
+
+/// What a call answers.
+#[derive(Clone, Copy, PartialEq, Eq, Debug)]
+pub struct Answer {
+    pub number: u32,
+    pub place: u32,
+    pub count: u32,
+}
+
+/// An answer that is no refusal: place 0.
+pub fn answered(number: u32, count: usize) -> Answer {
+    Answer { number, place: 0, count: count as u32 }
+}
+
+/// A refusal: count 0.
+pub fn refused(number: u32, place: u32) -> Answer {
+    Answer { number, place, count: 0 }
+}
+
+impl Answer {
+    /// As C gets it: bits 0-7 number, 8-31 place, 32-47 count, 48-63 zero.
+    pub fn packed(self) -> u64 {
+        u64::from(self.number) | u64::from(self.place) << 8 | u64::from(self.count) << 32
+    }
+}

@@ -1,0 +1,19 @@
+//! An independent implementation of document 01 and its comparison with the static library and the program `factbox`.
+//!
+//! - `facts`, `lines`: terms, facts, answers; five-column fields.
+//! - `parts`: document 01 part by part. `fewest`: f by three algorithms.
+//! - `calls`: the calls as C sees them. `library`: the static library and the program (feature `library`).
+//! - `generate`, `systematic`: the inputs. `compare`: one input put to two implementations.
+//! - `variants`: broken implementations, each of which the comparison must catch. `cases`: document 01's own cases.
+pub mod calls;
+pub mod cases;
+pub mod compare;
+pub mod facts;
+pub mod fewest;
+pub mod generate;
+#[cfg(feature = "library")]
+pub mod library;
+pub mod lines;
+pub mod parts;
+pub mod systematic;
+pub mod variants;

@@ -1,0 +1,343 @@
+//! Broken implementations, each wrong in one part, among them the jams that document 01 expects. The comparison must catch
+//! every one of them; where it does not, it is too weak.
+use crate::calls::Calls;
+use crate::facts::*;
+use crate::fewest;
+use crate::lines::{self, line, table_bytes, Line, DERIVATION_LINE, QUESTION_LINE, TABLE_LINE};
+use crate::parts::{Faithful, Parts};
+use std::collections::BTreeSet;
+
+type Named = (&'static str, Box<dyn Calls>);
+
+/// Variants that replace one and the same method: its signature, then a name and a body for each; and the list of them.
+macro_rules! variants {
+    ($list:ident: $method:ident $arguments:tt -> $result:ty; $($name:ident => $body:expr,)+) => {
+        $(
+            struct $name;
+            impl Parts for $name {
+                fn $method $arguments -> $result { $body }
+            }
+        )+
+        fn $list() -> Vec<Named> { vec![$((stringify!($name), Box::new($name))),+] }
+    };
+}
+
+/// Every variant with its name.
+pub fn all() -> Vec<Named> {
+    let single: Vec<Named> = vec![("LineEndIgnored", Box::new(LineEndIgnored))];
+    let question = [of_fewest(), of_within(), of_question(), of_sound(), of_join(), of_derivation()];
+    let check = [of_gives(), of_table_lines(), of_judge(), of_ends_in(), of_premise(), of_justified(), of_in_table()];
+    let table = [of_place(), of_above(), of_number(), of_fault(), of_table(), of_read(), of_row(), of_write(), single];
+    let program = [of_divider(), of_program()];
+    question.into_iter().chain([in_search()]).chain(check).chain(table).chain(program).flatten().collect()
+}
+
+// Rules. As they stand they break the check alone.
+
+variants! { of_gives: gives(&self, rule: u32, p: Fact, q: Fact) -> Option<Fact>;
+    LiteralBarredInChain => Faithful.gives(rule, p, q).filter(|_| rule != 1 || !is_literal(p[2])),
+    LiteralPredicate => match (rule, p, q) {
+        (2, [a, SP, b], [x, a2, y]) if a == a2 => Some([x, b, y]),
+        _ => Faithful.gives(rule, p, q),
+    },
+    DomainHandedDown => match (rule, p, q) {
+        (1, [a, SP, b], [b2, DOM, c]) if b == b2 => Some([a, DOM, c]),
+        _ => Faithful.gives(rule, p, q),
+    },
+    DomainHandedUp => match (rule, p, q) {
+        (3, [a, DOM, b], [b2, SC, c]) if b == b2 => Some([a, DOM, c]),
+        _ => Faithful.gives(rule, p, q),
+    },
+    RangeTypesSubject => match (rule, p, q) {
+        (6, [a, RANGE, b], [x, a2, _]) if a == a2 => Some([x, TYPE, b]),
+        _ => Faithful.gives(rule, p, q),
+    },
+    LiteralHasNoType => Faithful.gives(rule, p, q).filter(|given| given[1] != TYPE || !is_literal(given[0])),
+    SubpropertyNotTransitive => Faithful.gives(rule, p, q).filter(|_| rule != 1),
+    NoCycles => Faithful.gives(rule, p, q).filter(|given| given[1] > SP || given[0] != given[2]),
+    PremisesEitherWay => Faithful.gives(rule, p, q).or_else(|| Faithful.gives(rule, q, p)),
+}
+
+/// A search by broken rules, with a check by the true ones.
+struct InSearch<R>(R);
+impl<R: Parts> Parts for InSearch<R> {
+    /// On tables small enough: f by the broken rules, with a derivation of as many facts or with nothing in particular.
+    fn fewest(&self, facts: &[Fact], triple: Fact) -> Option<Vec<Fact>> {
+        let faithful = Faithful.fewest(facts, triple);
+        if facts.len() > 12 {
+            return faithful;
+        }
+        let f = fewest::by_cost(&self.0, facts, triple)?;
+        Some(faithful.filter(|used| used.len() == f).unwrap_or(vec![triple; f]))
+    }
+}
+
+fn in_search() -> Vec<Named> {
+    vec![
+        ("LiteralBarredInChain in the search", Box::new(InSearch(LiteralBarredInChain))),
+        ("LiteralPredicate in the search", Box::new(InSearch(LiteralPredicate))),
+        ("DomainHandedDown in the search", Box::new(InSearch(DomainHandedDown))),
+        ("DomainHandedUp in the search", Box::new(InSearch(DomainHandedUp))),
+        ("RangeTypesSubject in the search", Box::new(InSearch(RangeTypesSubject))),
+        ("LiteralHasNoType in the search", Box::new(InSearch(LiteralHasNoType))),
+        ("SubpropertyNotTransitive in the search", Box::new(InSearch(SubpropertyNotTransitive))),
+        ("NoCycles in the search", Box::new(InSearch(NoCycles))),
+    ]
+}
+
+// The question
+
+variants! { of_fewest: fewest(&self, facts: &[Fact], triple: Fact) -> Option<Vec<Fact>>;
+    ReflexiveSubclass => Faithful.fewest(facts, triple).or((triple[1] == SC && triple[0] == triple[2]).then(|| vec![triple])),
+    FirstFoundForShortest => fewest::ways(facts, triple).into_iter().next(),
+    LongestWay => fewest::ways(facts, triple).into_iter().max_by_key(Vec::len),
+    DomainOnly => {
+        let by_range = |used: &Vec<Fact>| triple[1] == TYPE && used.iter().any(|f| f[1] == RANGE);
+        fewest::ways(facts, triple).into_iter().filter(|used| !by_range(used)).min_by_key(Vec::len)
+    },
+    DepthBound => Faithful.fewest(facts, triple).filter(|used| used.len() < 1024),
+    LastFactUnseen => Faithful.fewest(&facts[..facts.len().min(1023)], triple),
+    DataFactFirst => Faithful.fewest(facts, triple).map(|mut used| {
+        used.sort_by_key(|&f| !is_data(f));
+        used
+    }),
+    NoToEverything => Faithful.fewest(facts, triple).filter(|_| false),
+}
+
+variants! { of_within: within(&self, f: usize, allowance: u32) -> bool;
+    YesBeyondAllowance => f <= allowance as usize + 1,
+    AllowanceExclusive => f < allowance as usize,
+}
+
+variants! { of_question: question(&self, table: &[u8], triple: Fact, allowance: u32, paper: &mut [u8]) -> Answer;
+    LongBeforeSearch => match Faithful.question(table, triple, allowance, paper) {
+        Answer { number: NO, .. } if allowance == 0 => answered(LONG, 1),
+        answer => answer,
+    },
+    LongWithoutCount => match Faithful.question(table, triple, allowance, paper) {
+        Answer { number: LONG, .. } => answered(LONG, 0),
+        answer => answer,
+    },
+    LongWrites => {
+        let answer = Faithful.question(table, triple, allowance, paper);
+        paper.iter_mut().filter(|_| answer.number == LONG).for_each(|b| *b = b' ');
+        answer
+    },
+    PaperCleared => {
+        let answer = Faithful.question(table, triple, allowance, paper);
+        let printed = DERIVATION_LINE * (2 * answer.count as usize).saturating_sub(1);
+        paper.iter_mut().skip(printed).filter(|_| answer.number == YES).for_each(|b| *b = 0);
+        answer
+    },
+    BlankPaper => Faithful.question(table, triple, allowance, &mut paper.to_vec()),
+}
+
+variants! { of_sound: sound(&self, table: &[u8], triple: Fact, allowance: u32, paper: usize) -> Result<Vec<Fact>, Answer>;
+    PaperAsPrinted => {
+        let facts = Faithful.sound(table, triple, allowance, usize::MAX)?;
+        match Faithful.fewest(&facts, triple) {
+            Some(used) if used.len() <= allowance as usize && paper < Faithful.paper(used.len() as u32) => Err(refused(8, 0)),
+            _ => Ok(facts),
+        }
+    },
+    ShortBeforeAllowance => Faithful.sound(table, triple, allowance.min(1024), paper).and(Faithful.sound(table, triple, allowance, paper)),
+    AllowanceBeforeTriple => Faithful.sound(table, [6, 6, 6], allowance, usize::MAX).and(Faithful.sound(table, triple, allowance, paper)),
+    TripleBeforeTable => Faithful.sound(&[], triple, 0, 0).and(Faithful.sound(table, triple, allowance, paper)),
+    TripleCutTo16Bits => Faithful.sound(table, triple.map(|t| t & 0xffff), allowance, paper),
+}
+
+variants! { of_join: join(&self, result: Line, number: u32, fact: Fact) -> Line;
+    PremisesSwapped => {
+        let l = Faithful.join(result, number, fact);
+        Line { first: l.second, second: l.first, ..l }
+    },
+}
+
+variants! { of_derivation: derivation(&self, facts: &[Fact]) -> Vec<Line>;
+    FactsFirst => {
+        // lines 1, 2, 4, 6, .. move to the front, lines 3, 5, 7, .. behind them
+        let moved = |p: u32| if p < 2 { p } else if p.is_multiple_of(2) { p / 2 + 1 } else { facts.len() as u32 + p / 2 };
+        let lines = Faithful.derivation(facts);
+        let rules = lines.iter().filter(|l| l.rule != 0).map(|l| Line { first: moved(l.first), second: moved(l.second), ..*l });
+        facts.iter().map(|&f| Line::of_table(f)).chain(rules).collect()
+    },
+    FactTwice => [vec![Line::of_table(facts[0])], Faithful.derivation(facts)].concat(),
+}
+
+// The check
+
+variants! { of_table_lines: table_lines(&self, lines: &[Line]) -> usize;
+    DistinctFactsCounted => lines.iter().filter(|l| l.rule == 0).map(|l| l.fact).collect::<BTreeSet<_>>().len(),
+    UsedFactsCounted => {
+        let used = |n: usize| n == lines.len() || lines.iter().any(|l| l.first == n as u32 || l.second == n as u32);
+        (1..=lines.len()).filter(|&n| lines[n - 1].rule == 0 && used(n)).count()
+    },
+    LinesCounted => lines.len(),
+}
+
+variants! { of_judge: judge(&self, table: &[u8], triple: Fact, derivation: &[u8]) -> Result<usize, Answer>;
+    StepBeforeForm => {
+        let whole = derivation.len().is_multiple_of(DERIVATION_LINE);
+        for n in (1..=2047).map(|n| n * DERIVATION_LINE).take_while(|&n| whole && n <= derivation.len()) {
+            Faithful.judge(table, triple, &derivation[..n]).or_else(|refusal| if refusal.number == 11 { Ok(0) } else { Err(refusal) })?;
+        }
+        Faithful.judge(table, triple, derivation)
+    },
+    EndBeforeStep => {
+        let lines = Faithful.lines(derivation).unwrap_or_default();
+        match Faithful.judge(table, triple, derivation) {
+            Err(Answer { number: 10, .. }) if !Faithful.ends_in(&lines, triple) => Err(refused(11, lines.len() as u32)),
+            verdict => verdict,
+        }
+    },
+    EmptyDerivationAccepted => match Faithful.judge(table, triple, derivation) {
+        Err(Answer { number: 9, .. }) if derivation.is_empty() => Ok(0),
+        verdict => verdict,
+    },
+    OneLineTooMany => Faithful.judge(table, triple, if derivation.len() == 31 * 2048 { &derivation[31..] } else { derivation }),
+    LineFaultByTerm => Faithful.judge(table, triple, derivation).map_err(|refusal| match Faithful.lines(derivation) {
+        Ok(lines) if refusal.number == 10 => {
+            refused(Faithful.fault(lines[refusal.place as usize - 1].fact).unwrap_or(10), refusal.place)
+        }
+        _ => refusal,
+    }),
+}
+
+variants! { of_ends_in: ends_in(&self, lines: &[Line], triple: Fact) -> bool;
+    TripleOnAnyLine => lines.iter().any(|l| l.fact == triple),
+}
+
+variants! { of_premise: premise(&self, lines: &[Line], own: usize, number: u32) -> Option<Fact>;
+    OwnLineAsPremise => Faithful.premise(lines, own + 1, number),
+    LaterLineAsPremise => Faithful.premise(lines, own.max(lines.len()), number),
+    PremisesFromZero => Faithful.premise(lines, own, number + 1),
+}
+
+variants! { of_justified: justified(&self, table: &[Fact], lines: &[Line], own: usize) -> bool;
+    OnePremiseOnce => (lines[own].rule == 0 || lines[own].first != lines[own].second) && Faithful.justified(table, lines, own),
+    TableFactUnderRule => Faithful.justified(table, lines, own) || (lines[own].rule <= 6 && table.contains(&lines[own].fact)),
+    TableLineWithPremises => Faithful.justified(table, lines, own) || (lines[own].rule == 0 && table.contains(&lines[own].fact)),
+    RuleNumberIgnored => {
+        let by = |rule| {
+            let mut lines = lines[..=own].to_vec();
+            lines[own].rule = rule;
+            Faithful.justified(table, &lines, own)
+        };
+        if lines[own].rule == 0 { by(0) } else { (1..=6).any(by) }
+    },
+    LastLineUntried => own + 1 == lines.len() || Faithful.justified(table, lines, own),
+    RejectsEveryDerivation => table.len() > 1024 && Faithful.justified(table, lines, own),
+}
+
+variants! { of_in_table: in_table(&self, table: &[Fact], fact: Fact) -> bool;
+    SubclassOfItselfAssumed => Faithful.in_table(table, fact) || (fact[1] == SC && fact[0] == fact[2] && well_formed(fact)),
+}
+
+// Reading and writing
+
+variants! { of_place: place(&self, index: usize) -> u32;
+    PlaceFromZero => index as u32,
+}
+
+variants! { of_above: above(&self, fact: Fact, before: Fact) -> bool;
+    EqualLinesPass => fact >= before,
+    OrderWithoutObject => fact[..2] >= before[..2] && fact != before,
+}
+
+variants! { of_number: number(&self, field: &[u8]) -> Option<u32>;
+    LeadingZeros => lines::number(field).or_else(|| std::str::from_utf8(field).ok()?.trim_start_matches(' ').parse().ok()),
+    SpacesBehind => lines::number(field).or_else(|| lines::number(std::str::from_utf8(field).ok()?.trim_end_matches(' ').as_bytes())),
+    SpacesAreZero => if field == b"     " { Some(0) } else { lines::number(field) },
+}
+
+struct LineEndIgnored;
+impl Parts for LineEndIgnored {
+    fn numbers<const K: usize>(&self, line: &[u8]) -> Option<[u32; K]> {
+        Faithful.numbers(&[&line[..5 * K], b"\n"].concat())
+    }
+}
+
+variants! { of_fault: fault(&self, fact: Fact) -> Option<u32>;
+    FieldByField => [[fact[0], 6, 6], [6, fact[1], 6], [6, 6, fact[2]]].into_iter().find_map(|one| Faithful.fault(one)),
+    PartBeforeBlank => match Faithful.fault(fact) {
+        Some(4) if is_vocabulary(fact[0]) || is_vocabulary(fact[2]) || is_literal(fact[1]) => Some(5),
+        fault => fault,
+    },
+    LiteralSubjectRefused => Faithful.fault(fact).or(is_literal(fact[0]).then_some(5)),
+    LastLiteralIsBlank => Faithful.fault(fact).or(fact.contains(&59999).then_some(4)),
+    FirstLiteralAsPredicate => Faithful.fault(fact).filter(|_| fact[1] != 40000 || Faithful.fault([fact[0], 6, fact[2]]).is_some()),
+}
+
+variants! { of_table: table(&self, bytes: &[u8]) -> Result<Vec<Fact>, Answer>;
+    LinesBeforeSize => Faithful.facts(bytes.chunks_exact(TABLE_LINE).map(|l| Faithful.numbers(l))).and(Faithful.table(bytes)),
+    RefusesEveryTable => if bytes.len() > 16_384 { Faithful.table(bytes) } else { Err(refused(1, 0)) },
+}
+
+variants! { of_read: read(&self, table: &[u8], row: &mut [u32]) -> Answer;
+    ShortBeforeLines => {
+        let short = table.len().is_multiple_of(TABLE_LINE) && table.len() <= 16_384 && 16 * row.len() < 3 * table.len();
+        if short { refused(8, 0) } else { Faithful.read(table, row) }
+    },
+    RowFilledBeforeRefusal => {
+        let answer = Faithful.read(table, row);
+        row.iter_mut().take(3).filter(|_| answer.number == 6).for_each(|n| *n = 0);
+        answer
+    },
+    RowWrittenBehind => {
+        let answer = Faithful.read(table, row);
+        row.iter_mut().skip(3 * answer.count as usize).take(1).filter(|_| answer.number == DONE).for_each(|n| *n = 0);
+        answer
+    },
+}
+
+variants! { of_row: row(&self, row: &[u32]) -> Result<Vec<Fact>, Answer>;
+    RowCutTo16Bits => Faithful.row(&row.iter().map(|n| n & 0xffff).collect::<Vec<_>>()),
+}
+
+variants! { of_write: write(&self, row: &[u32], output: &mut [u8]) -> Answer;
+    WriteCountsNumbers => {
+        let answer = Faithful.write(row, output);
+        Answer { count: 3 * answer.count, ..answer }
+    },
+    WrittenWithZeros => {
+        let answer = Faithful.write(row, output);
+        output.iter_mut().take(16 * answer.count as usize).filter(|b| **b == b' ').for_each(|b| *b = b'0');
+        answer
+    },
+}
+
+// The program
+
+variants! { of_divider: divider(&self, input: &[u8]) -> Option<usize>;
+    ZeroLineAnywhere => input.windows(TABLE_LINE).position(|l| l == line(&[0; 3])),
+    ZeroLineWithoutEnd => input.chunks_exact(TABLE_LINE).position(|l| l[..15] == line(&[0; 3])[..15]).map(|i| TABLE_LINE * i),
+    LastZeroLine => input.chunks(TABLE_LINE).rposition(|l| l == line(&[0; 3])).map(|i| TABLE_LINE * i),
+}
+
+variants! { of_program: program(&self, input: &[u8]) -> Vec<u8>;
+    OneRefusalForTheTable => match Faithful.questions(input).map(|(table, _)| Faithful.table(table)) {
+        Some(Err(refusal)) => line(&[refusal.number, refusal.place, 0]),
+        _ => Faithful.program(input),
+    },
+    BadQuestionAlone => match Faithful.divider(input).filter(|_| input.len() <= 32_768) {
+        Some(at) => {
+            let (table, questions) = input.split_at(at + TABLE_LINE);
+            questions.chunks(QUESTION_LINE).flat_map(|q| Faithful.program(&[table, q].concat())).collect()
+        }
+        None => Faithful.program(input),
+    },
+    TornEndIgnored => {
+        let torn = Faithful.divider(input).map_or(0, |at| (input.len() - at - TABLE_LINE) % QUESTION_LINE);
+        Faithful.program(if input.len() > 32_768 { input } else { &input[..input.len() - torn] })
+    },
+    InputCut => Faithful.program(&input[..input.len().min(32_768)]),
+    NothingOnEmptyInput => if input.is_empty() { vec![] } else { Faithful.program(input) },
+    ZeroQuestionIsForm => match Faithful.questions(input) {
+        Some((_, questions)) if questions.iter().any(|q| q.contains(&0)) => line(&[9, 0, 0]),
+        _ => Faithful.program(input),
+    },
+    TableWrittenToo => match Faithful.questions(input).and_then(|(table, _)| Faithful.table(table).ok()) {
+        Some(facts) => [table_bytes(&facts), Faithful.program(input)].concat(),
+        None => Faithful.program(input),
+    },
+}

@@ -1,0 +1,35 @@
+//! The static library and the program `factbox` against the independent implementation.
+use factbox_tests::cases;
+use factbox_tests::compare::{compare, Input};
+use factbox_tests::generate::inputs;
+use factbox_tests::library::Library;
+
+const SEED: u64 = 1;
+const RANDOM: usize = 120_000;
+
+#[test]
+fn the_library_has_document_01s_own_cases() {
+    cases::run(&Library::from_environment());
+}
+
+#[test]
+fn the_library_does_as_document_01_says() {
+    let library = Library::from_environment();
+    let mut counts = [0; 5];
+    for input in inputs(SEED, RANDOM) {
+        compare(&library, &input).unwrap_or_else(|e| panic!("{e}\n{input}"));
+        counts[match input {
+            Input::Question { .. } => 0,
+            Input::Check { .. } => 1,
+            Input::Read { .. } => 2,
+            Input::Write { .. } => 3,
+            Input::Program { .. } => 4,
+        }] += 1;
+    }
+    let total: usize = counts.iter().sum();
+    println!(
+        "{total} inputs agree: question {}, check {}, read {}, write {}, program {}",
+        counts[0], counts[1], counts[2], counts[3], counts[4]
+    );
+    assert!(total >= 200_000, "too few inputs: {total}");
+}
