@@ -1,11 +1,12 @@
-# make test: the whole check. make demo: a table read and written again. make fmt: the sources' layout.
+# make test: the whole check. make demo: the program and the panel's screen on document 01's example. make bench: the
+# measurements. make fuzz: a longer comparison. make fmt: the sources' layout.
 SHELL := bash
 .SHELLFLAGS := -euo pipefail -c
 .ONESHELL:
-.PHONY: test demo fmt check-trace
+.PHONY: test demo bench fuzz fmt check-trace host built
 
-# What is tried after the prover. A directory with host tests of its own adds its target here.
-CHECKS := check-trace
+# What is tried after the prover.
+CHECKS := check-trace host
 
 # rt ci's last line, 'N passed, 0 failed', is held back until every other check has passed.
 test:
@@ -19,12 +20,31 @@ test:
 check-trace:
 	@tools/check-trace
 
-# Proves the program and runs it.
-DEMO := table_cases
+# The proved library and program, as C and the tests use them.
+built:
+	@rt staticlib entail
+	rt check factbox
 
-demo:
-	@rt check $(DEMO)
-	target/bin/$(DEMO) < crates/$(DEMO)/stdin
+# The compiled library and program, called from C and from Rust. Without a compiler for one of them that part is left out,
+# and the run says so.
+host: built
+	@for part in client:cc tests:cargo; do
+	    if command -v "$${part#*:}" >/dev/null; then
+	        $(MAKE) --no-print-directory -C "$${part%:*}" test
+	    else
+	        echo "make test: $${part%:*} left out, $${part#*:} is not installed"
+	    fi
+	done
+
+demo: built
+	@target/bin/factbox < crates/factbox/stdin
+	$(MAKE) --no-print-directory -C client demo
+
+bench: built
+	@$(MAKE) --no-print-directory -C bench bench REPORT=../docs
+
+fuzz: built
+	@$(MAKE) --no-print-directory -C tests fuzz
 
 fmt:
 	@rt fmt

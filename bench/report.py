@@ -6,6 +6,7 @@ there is none); DIR/performance.svg is the plot. Instructions are callgrind's, a
 over interleaved pairs of calls.
 """
 import math
+import os
 import re
 import subprocess
 import sys
@@ -18,6 +19,8 @@ SIZES = [64, 128, 256, 512, 1024]
 # facts and questions of the program's inputs: 32,768 bytes hold no more questions over a full table, and no more facts
 # under 1,500 questions
 PROGRAM_INPUTS = [(1024, 779), (78, 1500)]
+# a 'rep stosb' is one instruction of the processor, but valgrind counts one for each byte: memset is to use plain stores
+TUNABLES = "glibc.cpu.x86_rep_stosb_threshold=1000000000:glibc.cpu.x86_rep_movsb_threshold=1000000000"
 COLOURS = ["#1b6ca8", "#d1495b", "#2e8b57", "#b8860b", "#6a4c93", "#e07a1f", "#444444", "#17a2a2", "#a0522d"]
 
 
@@ -30,7 +33,7 @@ def callgrind(*command, whole=False, **more):
     collect = [] if whole else ["--toggle-collect=factbox_*", "--toggle-collect=plain_*"]
     with tempfile.TemporaryDirectory() as folder:
         tool = ["valgrind", "--tool=callgrind", "--compress-strings=no", f"--callgrind-out-file={folder}/out"]
-        output(*tool, *collect, *command, stderr=subprocess.DEVNULL, **more)
+        output(*tool, *collect, *command, stderr=subprocess.DEVNULL, env={**os.environ, "GLIBC_TUNABLES": TUNABLES}, **more)
         dumps = {}
         for path in Path(folder).iterdir():
             text = path.read_text(errors="replace")
@@ -121,7 +124,7 @@ def program_table(bench, program):
     return table(["Questions", "instructions of the program", "of its calls", "ratio", "milliseconds", "ratio of times"], rows), ratios
 
 
-def panel(x0, title, counts, families, call, top):
+def chart(x0, title, counts, families, call, top):
     """One plot: the ratio by the number of facts, a line for each family."""
     width, height, y0 = 330, 300, 340
     x = lambda i: x0 + i * width / (len(SIZES) - 1)
@@ -144,8 +147,8 @@ def panel(x0, title, counts, families, call, top):
 def plot(counts, families, top):
     svg = ['<svg xmlns="http://www.w3.org/2000/svg" width="1010" height="390" font-family="sans-serif" font-size="12">',
            '<rect width="100%" height="100%" fill="white"/>']
-    svg += panel(40, "question: instructions, proved / plain C", counts, families, "question", top)
-    svg += panel(430, "check: instructions, proved / plain C", counts, families, "check", top)
+    svg += chart(40, "question: instructions, proved / plain C", counts, families, "question", top)
+    svg += chart(430, "check: instructions, proved / plain C", counts, families, "check", top)
     for i, (family, colour) in enumerate(zip(families, COLOURS)):
         at = 60 + 22 * i
         svg.append(f'<line x1="790" x2="815" y1="{at}" y2="{at}" stroke="{colour}" stroke-width="2"/>')
@@ -181,7 +184,8 @@ def main(bench, program, folder):
         "### Where the instructions of a question go, 1,024 facts", "", function_table(dumps, "question", families),
         "### Where the instructions of a check go, 1,024 facts", "", function_table(dumps, "check", families),
         "### Times of one question, microseconds", "",
-        "Another table at every call, and in the last column of each size the same one. Medians over interleaved pairs of calls.", "", time_table("question", times, families),
+        "Another table at every call, and in the last column of each size the same one. Medians over interleaved pairs of calls.",
+        "", time_table("question", times, families),
         "### Times of one check, microseconds", "", time_table("check", times, families),
         "### The program against the sum of its calls", "", programs,
         END,

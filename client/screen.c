@@ -14,13 +14,13 @@
 #include <string.h>
 #include <unistd.h>
 
-/* The table is read into one byte more than the most: a longer file then gets its refusal. So with derivations. */
+/* One byte more than the most is read: a longer file then gets its refusal. */
 static uint8_t table[FACTBOX_TABLE_MAX + 1];
 static uint8_t derivation[FACTBOX_DERIVATION_MAX + 1];
 static size_t table_len;
 
 static const char *const RULES[] = {
-    "table", "subproperty of a subproperty", "by subproperty", "subclass of a subclass", "by subclass", "by domain", "by range",
+    "", "subproperty of a subproperty", "by subproperty", "subclass of a subclass", "by subclass", "by domain", "by range",
 };
 
 /* What the refusals 1 to 11 mean. */
@@ -101,7 +101,8 @@ static int ask(const uint32_t *fact, uint32_t allowance) {
         size_t lines = 2 * (size_t)count - 1;
         uint64_t verdict = factbox_check(table, table_len, fact[0], fact[1], fact[2], derivation, lines * FACTBOX_DERIVATION_LINE);
         if (factbox_number(verdict) != FACTBOX_ACCEPTED || factbox_count(verdict) != count) {
-            show_refusal(verdict, fact);
+            headline("FAULT", RED, fact);
+            printf("the check does not accept the derivation\n");
             return 0;
         }
         headline("YES", GREEN, fact);

@@ -54,7 +54,7 @@ static void guard_page_faults(void) {
         fflush(NULL);
         pid_t child = fork();
         if (child == 0) {
-            freopen("/dev/null", "w", stderr);
+            if (!freopen("/dev/null", "w", stderr)) _exit(0);
             *(volatile uint8_t *)(past ? a.end : a.begin - 1) = 1;
             _exit(0);
         }
@@ -93,7 +93,7 @@ static void placed(uint32_t facts, int at_end, size_t shift) {
     static uint32_t row[FACTBOX_ROW_MAX];
     static arena input, other, output;
     if (!input.begin) input = new_arena(), other = new_arena(), output = new_arena();
-    for (uint32_t i = 0; i < facts; i++) row[3 * i] = 6 + i, row[3 * i + 1] = FACTBOX_SIZE, row[3 * i + 2] = 7 + i;
+    for (uint32_t i = 0; i < facts; i++) row[3 * i] = 6 + i, row[3 * i + 1] = 1, row[3 * i + 2] = 7 + i;
     size_t bytes = FACTBOX_TABLE_LINE * (size_t)facts, numbers = 3 * (size_t)facts, room = factbox_output_size(facts);
     uint64_t count = (uint64_t)facts << 32;
     EXPECT(factbox_write(row, numbers, table, bytes) == count);

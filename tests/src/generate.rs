@@ -33,6 +33,11 @@ impl Random {
     }
 }
 
+/// The inputs of a test: the library must pass them all, and every broken variant must fail on one.
+pub fn test_inputs() -> impl Iterator<Item = Input> {
+    inputs(1, 120_000)
+}
+
 /// Every input of a run: as many random ones as asked for, and all of some kinds. The slow ones come last, so that what is
 /// wrong shows early.
 pub fn inputs(seed: u64, random: usize) -> impl Iterator<Item = Input> {

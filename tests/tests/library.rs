@@ -1,11 +1,8 @@
 //! The static library and the program `factbox` against the independent implementation.
 use factbox_tests::cases;
 use factbox_tests::compare::{compare, Input};
-use factbox_tests::generate::inputs;
+use factbox_tests::generate::test_inputs;
 use factbox_tests::library::Library;
-
-const SEED: u64 = 1;
-const RANDOM: usize = 120_000;
 
 #[test]
 fn the_library_has_document_01s_own_cases() {
@@ -16,7 +13,7 @@ fn the_library_has_document_01s_own_cases() {
 fn the_library_does_as_document_01_says() {
     let library = Library::from_environment();
     let mut counts = [0; 5];
-    for input in inputs(SEED, RANDOM) {
+    for input in test_inputs() {
         compare(&library, &input).unwrap_or_else(|e| panic!("{e}\n{input}"));
         counts[match input {
             Input::Question { .. } => 0,

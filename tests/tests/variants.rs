@@ -1,17 +1,13 @@
 //! Every broken variant is caught by the comparison that the library must pass.
 use factbox_tests::compare::compare;
-use factbox_tests::generate::inputs;
+use factbox_tests::generate::test_inputs;
 use factbox_tests::variants::all;
 use std::sync::atomic::{AtomicUsize, Ordering::Relaxed};
-
-/// The run of inputs that the library must pass (tests/library.rs).
-const SEED: u64 = 1;
-const RANDOM: usize = 120_000;
 
 /// The first input that catches a variant, and how; nothing where none does.
 fn caught(name: &str) -> Option<(usize, String)> {
     let (_, variant) = all().into_iter().find(|(n, _)| *n == name)?;
-    inputs(SEED, RANDOM).enumerate().find_map(|(n, input)| Some((n + 1, compare(variant.as_ref(), &input).err()?)))
+    test_inputs().enumerate().find_map(|(n, input)| Some((n + 1, compare(variant.as_ref(), &input).err()?)))
 }
 
 #[test]

@@ -1,4 +1,5 @@
 pub mod Small
+pub mod Unpacked
 pub mod Codes
 pub mod Refusals
 pub mod Demands
