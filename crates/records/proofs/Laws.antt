@@ -15,11 +15,12 @@ use Rattle.facts.specs.declared.Fact.{Fact}
 use Rattle.facts.specs.declared.Refusal.{Refusal}
 use Rattle.facts.specs.declared.Refusal.the-variants.{Short}
 use Rattle.facts.specs.declared.Answer.the-variants.{Done, Refused}
+use Rattle.facts.specs.Answers.{codeOf}
 use Rattle.facts.proofs.Terms.{by-cases}
 use Rattle.table.specs.Tables.{Table, accepted, refused, rowOf, rowFact, tableOf, loaded}
 use Rattle.table.proofs.Rows.{accepted-size, loaded-accepted}
 use Rattle.table.proofs.Tables.{row-items}
-use Rattle.records.specs.Records.{overRecords, settledRecords, filledRecords, countOf}
+use Rattle.records.specs.Records.{overRecords, settledRecords, filledRecords}
 
 pub over-length : (new old : List Fact) → length new ≤ length old → length (overRecords new old) ≡ length old
 over-length new old h = simp (length-append, length-drop) (omega arith)
@@ -48,14 +49,14 @@ module _ (t : Table) (lent : ℕ) where
 -- ---- what it leaves, by the count of its answer
 
 abbrev count : List ℕ → ℕ → ℕ
-count b lent = countOf (settledRecords (tableOf b) lent)
+count b lent = codeOf (settledRecords (tableOf b) lent) .count
 
 -- a table has at most 1,024 facts, and they are counted only where as many records are lent
 pub count-within : (b : List ℕ) (lent : ℕ) → (count b lent ≤ 1024) × (count b lent ≤ lent)
 unfolding settledRecords
 count-within b lent = go (tableOf b) refl
   where
-    go : (t : Table) → tableOf b ≡ t → (countOf (settledRecords t lent) ≤ 1024) × (countOf (settledRecords t lent) ≤ lent)
+    go : (t : Table) → tableOf b ≡ t → (codeOf (settledRecords t lent) .count ≤ 1024) × (codeOf (settledRecords t lent) .count ≤ lent)
     go (refused r place) e = (omega arith, omega arith)
     go (accepted facts) e =
         by-cases (leb (length facts) lent)
@@ -73,7 +74,7 @@ count-filled b row old = go (tableOf b) refl
     none : put 0 ≡ old
     none = unfold itemsFrom in refl
 
-    go : (t : Table) → tableOf b ≡ t → put (countOf (settledRecords t (length old))) ≡ filledRecords t old
+    go : (t : Table) → tableOf b ≡ t → put (codeOf (settledRecords t (length old)) .count) ≡ filledRecords t old
     go (refused r place) e = none
     go (accepted facts) e =
         by-cases (leb (length facts) (length old))

@@ -8,7 +8,7 @@ use lib.Dec.{leb}
 use Rattle.facts.specs.declared.Fact.{Fact}
 use Rattle.facts.specs.declared.Refusal.the-variants.{Short}
 use Rattle.facts.specs.declared.Answer.{Answer}
-use Rattle.facts.specs.declared.Answer.the-variants.{Done, Yes, No, Long, Accepted, Refused}
+use Rattle.facts.specs.declared.Answer.the-variants.{Done, Refused}
 use Rattle.table.specs.Tables.{Table, accepted, refused}
 
 -- records written over the front of a list of them
@@ -24,12 +24,3 @@ settledRecords (refused r place) m = Refused r place
 unfoldable pub filledRecords : Table → List Fact → List Fact
 filledRecords (accepted facts) old = cond (leb (length facts) (length old)) (overRecords facts old) old
 filledRecords (refused r place) old = old
-
--- the facts that a reading is done with: none where it is refused
-abbrev pub countOf : Answer → ℕ
-countOf (Done n) = n
-countOf (Yes n) = 0
-countOf No = 0
-countOf (Long n) = 0
-countOf (Accepted n) = 0
-countOf (Refused r place) = 0

@@ -5,11 +5,12 @@ use facts::Fact;
 use facts::Refusal;
 use table::Scan;
 ghost use mathlib.Core.Path.{_≡_};
-ghost use Prim.Native.Nat.{_+_, _*_, _≤_, _<_};
+ghost use Prim.Native.Nat.{_*_, _≤_};
 ghost use lib.ListN.{length};
 ghost use Rattle.columns.specs.Lines.{itemsFrom, over};
+ghost use Rattle.facts.specs.Answers.{codeOf};
 ghost use Rattle.table.specs.Tables.{rowOf, rowFact, tableOf, loaded};
-ghost use Rattle.records.specs.Records.{overRecords, settledRecords, filledRecords, countOf};
+ghost use Rattle.records.specs.Records.{overRecords, settledRecords, filledRecords};
 
 // The numbers of a fact, and the most in a table.
 const FIELDS: usize = 3;
@@ -35,16 +36,10 @@ fn read_row(bytes: &[u8], lent: usize, row: &mut [u32]) -> Answer
 
 // How many facts a reading is done with: none where it is refused.
 fn count_of(answer: Answer) -> usize
-    ensures { λ r. ⌜ r ≡ countOf answer ⌝ }
+    ensures { λ r. ⌜ r ≡ codeOf answer .count ⌝ }
 {
-    match answer {
-        Answer::Done(n) => n as usize,
-        Answer::Yes(_) => 0,
-        Answer::No => 0,
-        Answer::Long(_) => 0,
-        Answer::Accepted(_) => 0,
-        Answer::Refused(_, _) => 0,
-    }
+    let code = facts::code_of(answer);
+    code.count as usize
 }
 
 // Fills the first n records with the facts of a row.

@@ -34,6 +34,7 @@ use denote.Builtin.{u8, u32, usize}
 use denote.Ref.{RefT}
 use denote.Slice.{sliceTy, sliceVal, MutSlice, ShrSlice, Room, finally, slice-vals, mut-slice-tells, shr-slice-tells, shr-slice-copy}
 use denote.Lend.{Held, lends-slice, slice-back, lends-shr-slice}
+use denote.Array.{Array}
 use denote.Index.{row, whole-out}
 use denote.Signature.{plain}
 use denote.Steps.{owned, peeks, heard, nothing}
@@ -49,13 +50,14 @@ use denote.Exit.{yes}
 use Rattle.columns.specs.Lines.{over, itemsFrom}
 use Rattle.facts.specs.declared.Fact.{Fact}
 use Rattle.facts.specs.declared.Answer.{Answer}
+use Rattle.facts.specs.Answers.{codeOf}
 use Rattle.facts.proofs.Fact as T
 use Rattle.facts.proofs.Answer as E
 use Rattle.facts.proofs.Answer.Laws as E′
 use Rattle.table.specs.Tables.{rowOf, rowFact, tableOf, loaded}
-use Rattle.records.specs.Records.{overRecords, settledRecords, filledRecords, countOf}
+use Rattle.records.specs.Records.{overRecords, settledRecords, filledRecords}
 use Rattle.records.proofs.Laws.{count-within, count-filled}
-use Rattle.records.proofs.Rows.{zeros-typed, zeros-in, row-out, big-lit}
+use Rattle.records.proofs.Rows.{zeros-typed, zeros-in, array-out, big-lit}
 use Rattle.records.proofs.read_row as read-row
 use Rattle.records.proofs.read_row.Symbol as read-row-def
 use Rattle.records.proofs.read_row.Symbol.{name as #records·read-row}
@@ -173,10 +175,10 @@ module _ {M : Type 1} (𝓤 : URA M) (H : Heap 𝓤) (A : Atoms 𝓤) (W : Given
   asks-count-of : (r : Answer) (u : Val) → ent 𝓤 (sem 𝓤 H A (E.the-row .own r (u ∷ []))) (CountOf 𝓤 H A mem run .pre (to-count-of r u))
   asks-count-of r u = qed W (‵ (E.the-row .own r (u ∷ [])) ∷ []) ∵ nothing ! $ move ! (1 ∷ 0 ∷ []) $ fjoin ! $ nothing ! $ join ! $ frame ! $ done !
 
-  counts : (n : ℕ) (r : Answer) → ent 𝓤 (ensured 𝓤 H A count-of.ended (count-of.clauses 𝓤 H A mem run) tt (r, tt) tt n) (fact 𝓤 (n ≡ countOf r))
-  counts n r = exE 𝓤 _ (λ ws. snd∗ 𝓤 (sem 𝓤 H A (lasts count-of.ended tt (r, tt) ws)) (fact 𝓤 (n ≡ countOf r)))
+  counts : (n : ℕ) (r : Answer) → ent 𝓤 (ensured 𝓤 H A count-of.ended (count-of.clauses 𝓤 H A mem run) tt (r, tt) tt n) (fact 𝓤 (n ≡ codeOf r .count))
+  counts n r = exE 𝓤 _ (λ ws. snd∗ 𝓤 (sem 𝓤 H A (lasts count-of.ended tt (r, tt) ws)) (fact 𝓤 (n ≡ codeOf r .count)))
 
-  within : (r : Answer) (n : ℕ) (zs : List ℕ) → Answers r → n ≡ countOf r → length zs ≡ 3072 → (3 * n ≤ length zs) × (n ≤ length fs)
+  within : (r : Answer) (n : ℕ) (zs : List ℕ) → Answers r → n ≡ codeOf r .count → length zs ≡ 3072 → (3 * n ≤ length zs) × (n ≤ length fs)
   within r n zs e₁ e₃ long = let c = count-within bs (length fs) in rw (e₃, e₁, long) (omega (arith, c .0), c .1)
 
   asks-fill : (l ν : ℕ) (δ : GName) (zs : List ℕ) (n : ℕ) (u : Val) → (3 * n ≤ length zs) × (n ≤ length fs)
@@ -273,7 +275,7 @@ module _ {M : Type 1} (𝓤 : URA M) (H : Heap 𝓤) (A : Atoms 𝓤) (W : Given
         use1 W (raw (CountOf 𝓤 H A mem run .pre (to-count-of r u))) (asks-count-of r u) $
         calls-at ! fm (CountOf 𝓤 H A mem run) known₂ (to-count-of r u) (and-then ! (load ! (from ! (stop !)) (look ! 27 refl)) (no-more !)) (λ u₂.
         use1 W (later (some (λ (n : ℕ). (‵ ftrue ⊛ ‵ (usize .own n (u₂ ∷ []))) ⊛ raw (ensured 𝓤 H A count-of.ended (count-of.clauses 𝓤 H A mem run) tt (r, tt) tt n)))) (id⊢ 𝓤 _) $ await ! tt $ pick ! (λ n.
-        split ! $ move ! (1 ∷ []) $ use1 W (raw (fact 𝓤 (n ≡ countOf r))) (counts n r) $ heard ! (n ≡ countOf r) (λ e₃. split ! $ move ! (1 ∷ []) $
+        split ! $ move ! (1 ∷ []) $ use1 W (raw (fact 𝓤 (n ≡ codeOf r .count))) (counts n r) $ heard ! (n ≡ codeOf r .count) (λ e₃. split ! $ move ! (1 ∷ []) $
         peeks ! usize (Is usize) (shows 𝓤 H A usize) n (u₂ ∷ []) (λ is₂.
         land ! (from ! (stop !)) (store ! 26 refl (uint-lawful 𝓤 H A W w64 .typed n _ is₂ .0)) $
         -- the row is lent to `fill`, shared, for a lifetime ν₂, and the records are given up to it
@@ -310,7 +312,8 @@ module _ {M : Type 1} (𝓤 : URA M) (H : Heap 𝓤) (A : Atoms 𝓤) (W : Given
         move ! (1 ∷ []) $
         lft-end ! tt $
         move ! (0 ∷ 6 ∷ []) $
-        lent-back ! tt $ use1 W (‵ (froom (tyArray (tyInt w32) (length (zs .1 .1 .0))) l₃ 0)) (row-out 𝓤 H A W (length (zs .1 .1 .0)) (zs .1 .1 .0) l₃) $ rewrite ! 0 (λ (m : ℕ). ‵ (froom (tyArray (tyInt w32) m) l₃ 0)) (len ∙ long) refl $
+        lent-back ! tt $ use1 W (some (λ (v : Val). given (Is (Array u32 (length (zs .1 .1 .0))) (zs .1 .1 .0) (v ∷ [])) (‵ (fat fullShare (tyArray (tyInt w32) (length (zs .1 .1 .0))) l₃ 0 v)))) (array-out 𝓤 H A W u32 (length (zs .1 .1 .0)) (zs .1 .1 .0) l₃) $ pick ! (λ v. learn ! (λ _.
+        forget ! 0 refl $ rewrite ! 0 (λ (m : ℕ). ‵ (froom (tyArray (tyInt w32) m) l₃ 0)) (len ∙ long) refl $
         assigns ! (of-opd ! (load ! (from ! (stop !)) (look ! 29 refl))) (from ! (stop !)) (init ! 36 refl (typed r u is)) $
         returns ! (look ! 36 refl) $
         forget ! 36 refl $ forget ! 34 refl $ forget ! 32 refl $ forget ! 29 refl $ forget ! 27 refl $ forget ! 25 refl $ forget ! 23 refl $ forget ! 21 refl $ forget ! 19 refl $ forget ! 17 refl $ forget ! 15 refl $ forget ! 13 refl $
@@ -318,7 +321,7 @@ module _ {M : Type 1} (𝓤 : URA M) (H : Heap 𝓤) (A : Atoms 𝓤) (W : Given
         move ! (28 ∷ 29 ∷ []) $ free1 ! $ move ! (26 ∷ 27 ∷ []) $ free1 ! $ move ! (24 ∷ 25 ∷ []) $ free1 ! $ move ! (22 ∷ 23 ∷ []) $ free1 ! $
         move ! (20 ∷ 21 ∷ []) $ free1 ! $ move ! (18 ∷ 19 ∷ []) $ free1 ! $ move ! (16 ∷ 17 ∷ []) $ free1 ! $ move ! (14 ∷ 15 ∷ []) $ free1 ! $
         move ! (12 ∷ 13 ∷ []) $ free1 ! $
-        free0 ! $ keep ! (0 ∷ 2 ∷ 10 ∷ []) $ by ! (exits r u (ys .1 .0) is e₁ (e₄ ∙ rw (e₂, e₃, e₁) (count-filled bs ns fs)) same)))))))))))))))))))))))))))))))))))))
+        free0 ! $ keep ! (0 ∷ 2 ∷ 10 ∷ []) $ by ! (exits r u (ys .1 .0) is e₁ (e₄ ∙ rw (e₂, e₃, e₁) (count-filled bs ns fs)) same)))))))))))))))))))))))))))))))))))))))
 
 module _ {M : Type 1} (𝓤 : URA M) (H : Heap 𝓤) (A : Atoms 𝓤) (W : Given 𝓤 H A) (mem : Memory → SProp 𝓤) (run : Routine → Fun 𝓤) where
   read-facts-walks : (C : Calls 𝓤 H) (Λ : Loops 𝓤 H) → FmC 𝓤 H (W .laws) C → Triple 𝓤 (C #records·read-row) (ReadRow 𝓤 H A mem run)
