@@ -41,7 +41,7 @@ demo: built
 	$(MAKE) --no-print-directory -C client demo
 
 bench: built
-	@$(MAKE) --no-print-directory -C bench bench REPORT=../docs
+	@$(MAKE) --no-print-directory -C bench test bench REPORT=../docs
 
 fuzz: built
 	@$(MAKE) --no-print-directory -C tests fuzz

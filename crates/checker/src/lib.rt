@@ -145,8 +145,8 @@ fn count_table_lines(derivation: &[u8], n: usize) -> u32
     let mut count = 0;
     let mut i = 0;
     while i < n {
-        let l = derivation::line_at(derivation, i);
-        if l.rule == 0 {
+        let rule = columns::number_at(derivation, LINE_BYTES * i);
+        if rule == 0 {
             count += 1;
         }
         i += 1;

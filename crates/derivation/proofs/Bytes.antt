@@ -3,12 +3,12 @@
 use mathlib.Core.Path.{_≡_, refl, sym, _∙_}
 use mathlib.Core.Bool.{true}
 use mathlib.Core.List.{List}
-use Prim.Native.Nat.{ℕ, _+_, _*_, _≤_, _<_}
+use Prim.Native.Nat.{ℕ, _+_, _*_, _<_}
 use native.Mathlib.Omega.{arith}
 use native.Mathlib.Nat.{zero-add}
 use lib.ListN.{length, getD}
 use Rattle.columns.specs.Lines.{laidOut, numbersAt, Below, itemsFrom}
-use Rattle.columns.proofs.Lines.{line-length, line-written}
+use Rattle.columns.proofs.Lines.{line-length}
 use Rattle.columns.proofs.Lists.{flat-length, lines-written, line-placed}
 use Rattle.facts.proofs.Facts.{fact-eq}
 use Rattle.rules.specs.declared.Line.{Line}
@@ -37,10 +37,6 @@ line-eq k l e =
 -- bytes whose n lines are all laid out are those of the lines that they say
 pub derivation-written : (b : List ℕ) (n : ℕ) → length b ≡ 31 * n → ((i : ℕ) → i < n → laidOut 6 b (31 * i) ≡ true) → b ≡ derivationBytes (itemsFrom (lineAt b) 0 n)
 derivation-written b n e laid = lines-written 6 numbers b (lineAt b) (numbers-line b) n n 0 e (zero-add n) laid
-
--- what is laid out says numbers of at most five digits
-pub laid-below : (b : List ℕ) (i : ℕ) → 31 * i + 31 ≤ length b → laidOut 6 b (31 * i) ≡ true → Below (numbers (lineAt b i))
-laid-below b i h e = rw (← numbers-line b i) (line-written 6 b (31 * i) h e .1)
 
 -- a derivation whose numbers have at most five digits is read back from its bytes
 pub line-read-back : (d : List Line) (i : ℕ) (z : Line) → i < length d → Below (numbers (getD d i z)) → (laidOut 6 (derivationBytes d) (31 * i) ≡ true) × (lineAt (derivationBytes d) i ≡ getD d i z)

@@ -8,6 +8,7 @@ use native.Mathlib.Nat.{add-zero}
 use denote.Ref.{now}
 use borrow.Author.Tests.{eq-eqb, ne-eqb}
 use Rattle.columns.specs.Lines.{itemsFrom}
+use Rattle.derivation.specs.Bytes.{lineAt}
 use Rattle.rules.specs.Derivations.{tableLines}
 use Rattle.checker.specs.Check.{linesOf}
 use Rattle.checker.proofs.Lines.{count-more}
@@ -24,8 +25,11 @@ loop-holds : tie.Need-loop-holds Inv-loop μ-loop
 unfolding tableLines itemsFrom
 loop-holds c = (omega arith, omega arith, refl)
 
-line-at-requires : tie.Need-line-at-requires Inv-loop μ-loop
-line-at-requires c κs = omega arith
+mul-number-at : tie.Need-mul-number-at Inv-loop μ-loop
+mul-number-at c = omega arith
+
+number-at-requires : tie.Need-number-at-requires Inv-loop μ-loop
+number-at-requires c κs = omega arith
 
 add-count : tie.Need-add-count Inv-loop μ-loop
 add-count c = omega arith
@@ -37,10 +41,11 @@ loop-less : tie.Need-loop-less Inv-loop μ-loop
 loop-less c = omega arith
 
 loop-again : tie.Need-loop-again Inv-loop μ-loop
+unfolding lineAt
 loop-again c =
-    let l = c .before .before .before .before .loop in
-    let x = now (c .before .before .before .before .before .before .args .derivation) in
-    let e = c .before .before .line-at .ensures in
+    let l = c .before .before .before .loop in
+    let x = now (c .before .before .before .before .before .args .derivation) in
+    let e = c .before .number-at .ensures in
     ⊎-elim
     (λ w. (omega arith, omega arith, rw (count-more x (l .i), ← e, eq-eqb _ _ (w .0 .taken)) (w .1 ∙ ap (λ n. n + 1) (l .inv .2))))
     (λ w. (omega arith, omega arith, rw (count-more x (l .i), ← e, ne-eqb _ _ (w .0 .left), add-zero) (w .1 ∙ l .inv .2)))
@@ -56,7 +61,8 @@ count-table-lines-spec =
     Inv-loop
     μ-loop
     loop-holds
-    line-at-requires
+    mul-number-at
+    number-at-requires
     add-count
     add-i
     loop-less
