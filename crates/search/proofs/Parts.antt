@@ -9,12 +9,13 @@ use native.Mathlib.Omega.{arith}
 use lib.ListN.{getD, set, replicate}
 use lib.Seq.{getD-set-other}
 use lib.Dec.{T}
+use borrow.Author.Tests.{le-leb, lt-leb}
 use Rattle.facts.specs.declared.Fact.{Fact}
 use Rattle.facts.proofs.Terms.{by-cases}
 use Rattle.table.specs.Tables.{rowFact}
 use Rattle.rules.specs.Paths.{named, next, link, property, chain, onlyTable, goesOn}
 use Rattle.rules.proofs.Paths.{next-says, only-says}
-use Rattle.search.specs.Row.{subjectAt, Cut, Rising, Ends}
+use Rattle.search.specs.Row.{subjectAt, Cut, Rising, Ends, mayComeBefore}
 use Rattle.search.specs.State.{slotOf, spare, PartOf, part, none, shut, passed}
 use Rattle.search.proofs.Laws.{equal-or, most-or, zeros-at}
 
@@ -111,6 +112,15 @@ module _ (row : List ℕ) (n w : ℕ) where
     part-passed i j r (none {from = lo} low high) f note l = in-part i lo lo j low high l f
     part-passed i j r (shut o h) f note l = λ b u y. absurd (next-none w (rowFact row i) (rowFact row b) o y)
     part-passed i j {done} r (passed {from = lo} o low h) f note l = in-noted i lo done r low note o h
+
+    -- where it may not come before `at`, what may follow a place stands behind
+    pub behind-passed : (i at : ℕ) → Rising row n → mayComeBefore row n (rowFact row i) at ≡ false → ((b : ℕ) → at ≤ b → P b) → Followed P i
+    unfolding mayComeBefore
+    behind-passed i at rising e f v u y =
+        let z = next-says w (rowFact row i) (rowFact row v) y .0 in
+        f v (most-or at v (λ c. c) (λ c. most-or n at (λ k. absurd (true≢false (sym (rw (le-leb n at k) refl) ∙ e))) (λ k.
+        most-or (link (rowFact row i)) (subjectAt row at) (λ o. absurd (true≢false (sym (rw (lt-leb n at k, le-leb (link (rowFact row i)) (subjectAt row at) o) refl) ∙ e)))
+        (λ o. absurd (omega (arith, rising .rises v at (omega arith) k, o, z))))))
 
     note-part : (i lo hi : ℕ) (done : List ℕ) → n ≤ 1024 → Cut row n (link (rowFact row i)) lo → Cut row n (link (rowFact row i) + 1) hi → lo < hi → goesOn w (rowFact row i) ≡ true
         → Followed P i → Noted P done → Noted P (set done (slotOf (property (rowFact row i)) lo) 1)

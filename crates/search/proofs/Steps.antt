@@ -132,10 +132,11 @@ module _ (row : List ℕ) (n w : ℕ) (mark queue : List ℕ) (m : ℕ) where
     pub ending-begin : (k : ℕ) → Ending n (replicate k 0) 0
     ending-begin k = record { is = inl refl; passed = λ p l. absurd (omega arith); noted = note-none row n w (NotBelow n) k }
 
-    pub ending-skip : (best : ℕ) (done : List ℕ) (q : ℕ) → Ending best done q → (markOf q ≡ m → ⊥) → Ending best done (q + 1)
+    -- a place that is not marked m, or leads to no goal before `best`
+    pub ending-skip : (best : ℕ) (done : List ℕ) (q : ℕ) → Ending best done q → (markOf q ≡ m → Followed row n w (NotBelow best) (getD queue q 0)) → Ending best done (q + 1)
     ending-skip best done q d f = record {
       is = d .is;
-      passed = λ p l e. equal-or p q (λ g. absurd (f (ap markOf (sym g) ∙ e))) (λ g. d .passed p (omega (arith, g)) e);
+      passed = λ p l e. equal-or p q (λ g. rw g (f (ap markOf (sym g) ∙ e))) (λ g. d .passed p (omega (arith, g)) e);
       noted = d .noted;
     }
 

@@ -13,7 +13,7 @@ use borrow.Author.Tests.{eq-eqb, ne-eqb}
 use Rattle.facts.specs.declared.Fact.{Fact}
 use Rattle.facts.specs.Terms.{dom, range}
 use Rattle.rules.specs.Steps.{same}
-use Rattle.rules.specs.Graph.{_∈_, Path}
+use Rattle.rules.specs.Graph.{_∈_, Path, least}
 use Rattle.rules.specs.Paths.{start, next, goal, ways, HasPath, fewest}
 use Rattle.rules.specs.Chosen.{wayOf, chosenBy, chosen}
 use Rattle.rules.proofs.Graph.{short}
@@ -30,10 +30,11 @@ use Rattle.facts.specs.Facts.{before}
 use Rattle.facts.proofs.Facts.{Before, by-subject, by-predicate, by-object, before-iff}
 use Rattle.search.specs.State.{Met, Nowhere, Left}
 use Rattle.columns.specs.Lines.{over}
-use Rattle.search.specs.Trace.{Traceable}
+use Rattle.search.specs.Trace.{Traceable, orElse, into}
 use Rattle.search.specs.Answer.{Answers, Given, Gives}
 use Rattle.columns.proofs.Lists.{items-length}
 use Rattle.search.proofs.Laws.{equal-or, most-or}
+use Rattle.search.proofs.Ways.{range-dom}
 
 -- ---- rows
 
@@ -95,7 +96,7 @@ module _ (row : List ℕ) (n : ℕ) (t : Fact) where
   bound-of w zero s l k h p = absurd (omega arith)
   bound-of w (suc f) s l k h p = λ a m x g. omega (arith, l .lowest a m x g)
 
-  bound-none : (w f : ℕ) (s : State) → Left row n w t f s → f ≡ 0 → Nowhere row n w t
+  pub bound-none : (w f : ℕ) (s : State) → Left row n w t f s → f ≡ 0 → Nowhere row n w t
   bound-none w zero s l e = l
   bound-none w (suc f) s l e = absurd (omega arith)
 
@@ -116,7 +117,7 @@ module _ (row : List ℕ) (n : ℕ) (t : Fact) where
       ⊎-elim (λ e. inl e) (λ c. ⊎-elim (λ e. inr e) (λ d. absurd (List·Memᴰ·not-nil d)) (List·Memᴰ·cases-cons c)) (List·Memᴰ·cases-cons b)
 
   -- what one of two searches says of its way, where the other has at least f facts, or no path
-  other-low : (v f k : ℕ) (u : State) → Left row n v t k u → (k ≡ 0) ⊎ (f ≤ k) → 0 < f → Bound f v
+  pub other-low : (v f k : ℕ) (u : State) → Left row n v t k u → (k ≡ 0) ⊎ (f ≤ k) → 0 < f → Bound f v
   other-low v f k u m (inl z) p = λ b i q y. absurd (bound-none v k u m z b i q y)
   other-low v f k u m (inr z) p = bound-of v k u m f z (omega arith)
 
@@ -131,15 +132,22 @@ module _ (row : List ℕ) (n : ℕ) (t : Fact) where
       (two-ways h a))
       (λ y. way-range (factsOf row n) t f on (λ a p q. ⊎-elim (λ z. bound-none 3 k u m z a f p q) (λ z. let b = bound-of 3 k u m (suc f) z (omega arith) a f p q in omega arith) less) (y .path) (y .ends))
 
-  pub answers-dom : (f k : ℕ) (s u : State) (places after : List ℕ) (r : Found) → t .predicate ≡ 5 → Left row n 3 t f s → Left row n 4 t k u
-      → (0 < f → (k ≡ 0) ⊎ (f ≤ k)) → (f ≡ 0 → k ≡ 0) → Gives row n 3 t f places after r → Answers row n t places after r
+  pub answers-dom : (f : ℕ) (s : State) (places after : List ℕ) (r : Found) → t .predicate ≡ 5 → Left row n 3 t f s → (f ≡ 0 → Nowhere row n 4 t) → (0 < f → Bound f 4)
+      → Gives row n 3 t f places after r → Answers row n t places after r
   unfolding ways
-  answers-dom f k s u places after r h l m less also g =
+  answers-dom f s places after r h l out low g =
       let on = eq-eqb (t .predicate) 5 h in
       answers 3 f s places after r (rw on (List·Memᴰ·head refl)) l g
-      (λ e v a. ⊎-elim (λ x. subst (λ (y : ℕ). Nowhere row n y t) (sym x) (bound-none 3 f s l e)) (λ x. subst (λ (y : ℕ). Nowhere row n y t) (sym x) (bound-none 4 k u m (also e))) (two-ways h a))
-      (λ p v a. ⊎-elim (λ e. subst (Bound f) (sym e) (bound-of 3 f s l f (omega arith) p)) (λ e. subst (Bound f) (sym e) (other-low 4 f k u m (less p) p)) (two-ways h a))
+      (λ e v a. ⊎-elim (λ x. subst (λ (y : ℕ). Nowhere row n y t) (sym x) (bound-none 3 f s l e)) (λ x. subst (λ (y : ℕ). Nowhere row n y t) (sym x) (out e)) (two-ways h a))
+      (λ p v a. ⊎-elim (λ e. subst (Bound f) (sym e) (bound-of 3 f s l f (omega arith) p)) (λ e. subst (Bound f) (sym e) (low p)) (two-ways h a))
       (λ y. way-dom (factsOf row n) t f on (y .path) (y .ends))
+
+  -- or where no data fact is into the subject
+  pub answers-alone : (f : ℕ) (s : State) (places after : List ℕ) (r : Found) → t .predicate ≡ 5 → n ≤ orElse n (least (into row (t .subject)) 0 n) → Left row n 3 t f s
+      → Gives row n 3 t f places after r → Answers row n t places after r
+  answers-alone f s places after r h out l =
+      answers-dom f s places after r h l (λ e a m p. bound-none 3 f s l e a m (range-dom row n t h out p))
+      (λ p a m q. bound-of 3 f s l f (omega arith) p a m (range-dom row n t h out q))
 
   -- one search, and its path read back
   left-some : (w f : ℕ) (s : State) → (f ≡ 0 → ⊥) → Left row n w t f s → Met row n w t f s

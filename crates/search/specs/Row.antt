@@ -1,15 +1,16 @@
 -- A row of numbers, three a fact, as the facts of a table that are searched.
 -- Assumes nothing.
 use mathlib.Core.Path.{_≡_}
-use mathlib.Core.Bool.{Bool, true, false}
+use mathlib.Core.Bool.{Bool, true, false, _||_}
 use mathlib.Core.List.{List}
 use Prim.Native.Nat.{ℕ, suc, _+_, _*_, _≤_, _<_}
 use lib.ListN.{length}
-use lib.Dec.{T}
+use lib.Dec.{T, leb}
 use Rattle.columns.specs.Lines.{itemsFrom}
 use Rattle.facts.specs.declared.Fact.{Fact}
 use Rattle.facts.specs.Facts.{before}
 use Rattle.table.specs.Tables.{rowFact}
+use Rattle.rules.specs.Paths.{link}
 
 -- the first n facts of a row
 abbrev pub factsOf : List ℕ → ℕ → List Fact
@@ -42,3 +43,8 @@ pub record Ends (row : List ℕ) (n x lo noted : ℕ) (on : Bool) (r : ℕ) : Ty
   pub fresh : noted ≡ 0 → on ≡ true → Cut row n (x + 1) r
   pub again : (noted ≡ 0 → ⊥) → r ≡ lo
   pub shut : on ≡ false → r ≡ lo
+
+-- no fact stands at the place, or its subject is not below the term to which a leads
+unfoldable pub mayComeBefore : List ℕ → ℕ → Fact → ℕ → Bool
+unfolding link
+mayComeBefore row n a at = leb n at || leb (link a) (subjectAt row at)

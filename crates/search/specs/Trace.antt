@@ -10,7 +10,7 @@ use lib.ListN.{getD}
 use lib.Dec.{T, eqb, ltb}
 use Rattle.facts.specs.declared.Fact.{Fact}
 use Rattle.rules.specs.Graph.{least}
-use Rattle.rules.specs.Paths.{start, next, goal}
+use Rattle.rules.specs.Paths.{named, start, next, goal}
 use Rattle.search.specs.declared.State.{State}
 use Rattle.table.specs.Tables.{rowFact}
 use Rattle.search.specs.Row.{Rising}
@@ -24,6 +24,10 @@ orElse n (some i) = i
 -- the fact at j is a start and a goal
 abbrev pub single : List ℕ → ℕ → Fact → ℕ → Bool
 single row w t j = goal t (rowFact row j) && start w t (rowFact row j)
+
+-- the fact at j is a data fact with the object x
+abbrev pub into : List ℕ → ℕ → ℕ → Bool
+into row x j = named (rowFact row j .predicate) && eqb (rowFact row j .object) x
 
 module _ (row : List ℕ) (n w : ℕ) (mark : List ℕ) where
   -- the place i is marked m, and b may follow it

@@ -10,6 +10,7 @@ use facts::is_name;
 use rules::Line;
 use table::Scan;
 use table::load;
+use table::row_fact;
 ghost use mathlib.Core.Path.{_≡_};
 ghost use mathlib.Core.List.{[], _∷_};
 ghost use Prim.Native.Nat.{ℕ, _+_, _*_, _≤_, _<_};
@@ -23,8 +24,8 @@ ghost use Rattle.facts.specs.Facts.{fact};
 ghost use Rattle.rules.specs.Derivations.{line};
 ghost use Rattle.rules.specs.Printed.{join, printed};
 ghost use Rattle.derivation.specs.Bytes.{derivationBytes};
-ghost use Rattle.search.specs.Row.{factsOf, Rising, Cut, Ends, Sorted};
-ghost use Rattle.search.specs.Trace.{orElse, single, ending, Queued, Stepping, Stepped, FirstEnd, Traceable};
+ghost use Rattle.search.specs.Row.{factsOf, Rising, Cut, Ends, Sorted, mayComeBefore};
+ghost use Rattle.search.specs.Trace.{orElse, single, into, ending, Queued, Stepping, Stepped, FirstEnd, Traceable};
 ghost use Rattle.search.specs.Answer.{Given, Gives, Answers};
 ghost use Rattle.search.specs.Question.{needed, asked, answerOf, printedFor, written, Settling, Answered};
 ghost use Rattle.search.specs.Order.{Placed, Run, Rotated, InPrint, Printing, factsAt};
@@ -58,21 +59,6 @@ const BEGINNINGS: usize = 1025;
 const SPARE: usize = 2050;
 
 const NOTES: usize = 2051;
-
-// The fact at a place of the row.
-fn fact_at(row: &[u32], i: usize) -> Fact
-    requires { ⌜ 3 * i + 3 ≤ length (now row) ⌝ }
-    ensures { λ r. ⌜ r ≡ rowFact (now (row .entry)) i ⌝ }
-{
-    let s = row[FIELDS * i];
-    let p = row[FIELDS * i + 1];
-    let o = row[FIELDS * i + 2];
-    Fact {
-        subject: s,
-        predicate: p,
-        object: o,
-    }
-}
 
 // The term to which a fact leads: the predicate of a data fact, and else the object.
 fn link_of(f: Fact) -> u32
@@ -217,7 +203,7 @@ fn seed(row: &[u32], n: usize, w: u32, t: Fact) -> Reached
     let mut s = blank();
     let mut j = 0;
     while j < n {
-        let a = fact_at(row, j);
+        let a = row_fact(row, j);
         if starts(w, t, a) {
             s.mark[j] = 1;
             let to = s.to;
@@ -300,13 +286,13 @@ fn rounds(row: &[u32], n: usize, w: u32, t: Fact, s0: State) -> Reached
         let mut q = s.from;
         while q < end {
             let i = s.queue[q] as usize;
-            let a = fact_at(row, i);
+            let a = row_fact(row, i);
             let p = part_of(row, n, w, a, &done);
             let stop = p.to;
             let mut j = p.from;
             while j < stop {
                 if s.mark[j] == 0 {
-                    let b = fact_at(row, j);
+                    let b = row_fact(row, j);
                     if follows(w, a, b) {
                         s.mark[j] = (layer + 1) as u16;
                         let to = s.to;
@@ -383,7 +369,7 @@ fn before(
         }
         if k == m {
             if i < at {
-                let a = fact_at(row, i);
+                let a = row_fact(row, i);
                 if follows(w, a, b) {
                     at = i;
                 }
@@ -401,7 +387,7 @@ fn first_alone(row: &[u32], n: usize, w: u32, t: Fact) -> usize
 {
     let mut j = 0;
     while j < n {
-        let b = fact_at(row, j);
+        let b = row_fact(row, j);
         if ends(t, b) & starts(w, t, b) {
             return j;
         }
@@ -421,7 +407,7 @@ fn first_end(row: &[u32], w: u32, t: Fact, a: Fact, p: Part, best: usize) -> usi
         if best <= j {
             return best;
         }
-        let b = fact_at(row, j);
+        let b = row_fact(row, j);
         if ends(t, b) & follows(w, a, b) {
             return j;
         }
@@ -430,7 +416,19 @@ fn first_end(row: &[u32], w: u32, t: Fact, a: Fact, p: Part, best: usize) -> usi
     best
 }
 
-// The first goal, or n, that may follow a place marked m: over these places, and from each over its part of the row, once.
+// Something that may follow a may stand before the place: the subject there is not below the term to which a leads.
+fn may_come_before(row: &[u32], n: usize, a: Fact, at: usize) -> bool
+    requires { ⌜ Rising (now row) n ⌝ }
+    ensures { λ r. ⌜ r ≡ mayComeBefore (now (row .entry)) n a at ⌝ }
+{
+    if n <= at {
+        return true;
+    }
+    link_of(a) <= row[FIELDS * at]
+}
+
+// The first goal, or n, that may follow a place marked m: over these places, and from each over its part of the row, once,
+// where that may lead to an earlier goal than the first so far.
 fn last(
     row: &[u32],
     n: usize,
@@ -450,11 +448,13 @@ fn last(
     while q < top {
         let i = wide(queue[q]);
         if wide(mark[i]) == m {
-            let a = fact_at(row, i);
-            let p = part_of(row, n, w, a, &done);
-            best = first_end(row, w, t, a, p, best);
-            let d = p.slot;
-            done[d] = 1;
+            let a = row_fact(row, i);
+            if may_come_before(row, n, a, best) {
+                let p = part_of(row, n, w, a, &done);
+                best = first_end(row, w, t, a, p, best);
+                let d = p.slot;
+                done[d] = 1;
+            }
         }
         q += 1;
     }
@@ -493,7 +493,7 @@ fn trace(row: &[u32], n: usize, w: u32, t: Fact, f: usize, s: State, path: &mut 
     let mut j = path_end(row, n, w, t, i, &mark, &queue, top);
     path[i] = j as u16;
     while 0 < i {
-        let b = fact_at(row, j);
+        let b = row_fact(row, j);
         let step = before(row, n, w, i, b, &mark, &queue, top);
         j = step.at;
         top = step.top;
@@ -522,12 +522,32 @@ fn answer(row: &[u32], n: usize, w: u32, t: Fact, r: Reached, path: &mut [u16]) 
     Found::Facts(facts)
 }
 
-// For a type two searches: the way by range where it is strictly shorter, and else the way by dom.
+// The first data fact with the object x, or n.
+fn first_into(row: &[u32], n: usize, x: u32) -> usize
+    requires { ⌜ Rising (now row) n ⌝ }
+    ensures { λ r. ⌜ r ≡ orElse n (least (into (now (row .entry)) x) 0 n) ⌝ }
+{
+    let mut j = 0;
+    while j < n {
+        let b = row_fact(row, j);
+        if is_name(b.predicate) & (b.object == x) {
+            return j;
+        }
+        j += 1;
+    }
+    n
+}
+
+// For a type two searches: the way by range where it is strictly shorter, and else the way by dom. A way by range that is not
+// also one by dom begins with a data fact whose object is the subject, so without one the search by dom is enough.
 fn by_type(row: &[u32], n: usize, t: Fact, path: &mut [u16]) -> Found
     requires { ⌜ Rising (now row) n × (n ≤ length (now path)) × (t .predicate ≡ 5) ⌝ }
     ensures { λ r. ⌜ Answers (now (row .entry)) n t (now (path .entry)) (now (path .exit)) r ⌝ }
 {
     let a = reach(row, n, DOM, t);
+    if n <= first_into(row, n, t.subject) {
+        return answer(row, n, DOM, t, a, path);
+    }
     let b = reach(row, n, RANGE, t);
     let x = b.facts;
     let y = a.facts;
@@ -561,7 +581,7 @@ fn sp_run(row: &[u32], n: usize, f: usize, path: &[u16]) -> usize
 {
     let mut k = 0;
     while k + 1 < f {
-        let b = fact_at(row, path[k + 1] as usize);
+        let b = row_fact(row, path[k + 1] as usize);
         if b.predicate == SP {
             k += 1;
         } else {
@@ -590,7 +610,7 @@ fn print_order(row: &[u32], n: usize, f: usize, path: &mut [u16])
     requires { ⌜ Placed (now row) n f (now path) ⌝ }
     ensures { λ r. ⌜ InPrint (now (row .entry)) f (now (path .entry)) (now (path .exit)) ⌝ }
 {
-    let a = fact_at(row, path[0] as usize);
+    let a = row_fact(row, path[0] as usize);
     let p = a.predicate;
     if is_name(p) {
         let k = sp_run(row, n, f, path);
@@ -674,14 +694,14 @@ fn print(row: &[u32], n: usize, f: usize, path: &[u16], out: &mut [u8])
     requires { ⌜ Printing (now row) n f (now path) (length (now out)) ⌝ }
     ensures { λ _. ⌜ now (out .exit) ≡ over (derivationBytes (printed (factsAt (now (row .entry)) (now (path .entry)) f))) (now (out .entry)) ⌝ }
 {
-    let mut c = fact_at(row, wide(path[0]));
+    let mut c = row_fact(row, wide(path[0]));
     let first = table_line(c);
     put_line(first, out);
     let mut k = 1;
     let mut i: u32 = 1;
     let mut at = LINE_BYTES;
     while k < f {
-        let g = fact_at(row, wide(path[k]));
+        let g = row_fact(row, wide(path[k]));
         c = put_joined(c, i, g, &mut out[at..]);
         at += 2 * LINE_BYTES;
         i += 2;

@@ -70,8 +70,8 @@ returns c =
     looking-stop _ _ _ _ _ _ _ _ (l .at) (l .q) (c .before .before .before .before .before .before .before .before .pre) (l .inv) (c .before .before .before .before .before .loop-test .taken)
     (omega (arith, mark-is (c .before), c .if1 .taken))
 
-fact-at-requires : tie.Need-fact-at-requires Inv-loop μ-loop
-fact-at-requires c κs = omega (arith, i-few (c .before .before .before .before .before), c .before .before .before .before .before .before .before .before .before .before .pre .rising .whole)
+row-fact-requires : tie.Need-row-fact-requires Inv-loop μ-loop
+row-fact-requires c κs = omega (arith, i-few (c .before .before .before .before .before), c .before .before .before .before .before .before .before .before .before .before .pre .rising .whole)
 
 follows-requires : tie.Need-follows-requires Inv-loop μ-loop
 follows-requires c κs = search needs
@@ -122,7 +122,7 @@ before-spec =
     element-copy-out-wide-2
     wide-requires-2
     returns
-    fact-at-requires
+    row-fact-requires
     follows-requires
     sub-q
     loop-less

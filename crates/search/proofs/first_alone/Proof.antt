@@ -19,8 +19,8 @@ abbrev μ-loop : tie.MeasureT-loop
 loop-holds : tie.Need-loop-holds Inv-loop μ-loop
 loop-holds c = (omega arith, least-begin _ _)
 
-fact-at-requires : tie.Need-fact-at-requires Inv-loop μ-loop
-fact-at-requires c κs = omega arith
+row-fact-requires : tie.Need-row-fact-requires Inv-loop μ-loop
+row-fact-requires c κs = omega arith
 
 ends-requires : tie.Need-ends-requires Inv-loop μ-loop
 ends-requires c κs = search needs
@@ -31,7 +31,7 @@ starts-requires c κs = search needs
 returns : tie.Need-returns Inv-loop μ-loop
 returns c = let l =
     c .before .before .before .before .before .loop in sym (ap (orElse _) (l .inv .1 ∙ least-hit _ (c .before .before .before .before .loop-test .taken)
-    (rw (← c .before .before .before .fact-at .ensures, ← c .before .before .ends .ensures, ← c .before .starts .ensures) (c .if1 .taken))))
+    (rw (← c .before .before .before .row-fact .ensures, ← c .before .before .ends .ensures, ← c .before .starts .ensures) (c .if1 .taken))))
 
 add-j : tie.Need-add-j Inv-loop μ-loop
 add-j c = omega arith
@@ -44,7 +44,7 @@ loop-again c = let l =
     c .before .before .before .before .before .loop in (
       omega arith,
       l .inv .1 ∙ least-skip _ (c .before .before .before .before .loop-test .taken) (rw (
-        ← c .before .before .before .fact-at .ensures,
+        ← c .before .before .before .row-fact .ensures,
         ← c .before .before .ends .ensures,
         ← c .before .starts .ensures,
       ) (c .if1 .left)),
@@ -60,7 +60,7 @@ first-alone-spec =
     Inv-loop
     μ-loop
     loop-holds
-    fact-at-requires
+    row-fact-requires
     ends-requires
     starts-requires
     returns

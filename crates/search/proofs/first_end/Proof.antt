@@ -24,7 +24,7 @@ abbrev μ-loop : tie.MeasureT-loop
 -- what the two tests say of the fact at j
 tests : (c : tie.After-follows Inv-loop μ-loop) → let a = c .before .before .before .before .before .before .before .args in let j = c .before .before .before .before .before .loop .j in
     (goal (a .t) (rowFact (a .row .now) j) && next (a .w) (a .a) (rowFact (a .row .now) j)) ≡ (c .before .ends .result && c .follows .result)
-tests c = rw (← c .before .before .fact-at .ensures, ← c .before .ends .ensures, ← c .follows .ensures)
+tests c = rw (← c .before .before .row-fact .ensures, ← c .before .ends .ensures, ← c .follows .ensures)
 
 loop-holds : tie.Need-loop-holds Inv-loop μ-loop
 loop-holds c = (omega arith, λ b l u. absurd (omega arith))
@@ -32,8 +32,8 @@ loop-holds c = (omega arith, λ b l u. absurd (omega arith))
 returns : tie.Need-returns Inv-loop μ-loop
 returns c = let l = c .before .before .loop in record { most = omega arith; is = inl refl; low = λ i h u x y. most-or (l .j) i (λ z. omega (arith, c .if1 .taken)) (λ z. absurd (l .inv .1 i h z x y)) }
 
-fact-at-requires : tie.Need-fact-at-requires Inv-loop μ-loop
-fact-at-requires c κs = omega (arith, c .before .loop-test .taken, c .before .before .before .before .pre)
+row-fact-requires : tie.Need-row-fact-requires Inv-loop μ-loop
+row-fact-requires c κs = omega (arith, c .before .loop-test .taken, c .before .before .before .before .pre)
 
 ends-requires : tie.Need-ends-requires Inv-loop μ-loop
 ends-requires c κs = search needs
@@ -83,7 +83,7 @@ first-end-spec =
     μ-loop
     loop-holds
     returns
-    fact-at-requires
+    row-fact-requires
     ends-requires
     follows-requires
     returns-2

@@ -10,7 +10,8 @@ use Rattle.facts.specs.declared.Fact.{Fact}
 use Rattle.table.specs.Tables.{rowFact}
 use Rattle.search.specs.State.{PartOf}
 use Rattle.search.specs.Trace.{FirstEnd}
-use Rattle.search.proofs.Parts.{part-within}
+use Rattle.search.specs.Row.{mayComeBefore}
+use Rattle.search.proofs.Parts.{part-within, behind-passed}
 use Rattle.search.proofs.Steps.{Ending, ending-begin, ending-skip, ending-more, ending-end}
 use Rattle.search.proofs.last.Statement.{statement}
 use Rattle.search.proofs.last.Tie as tie
@@ -46,22 +47,25 @@ element-copy-out-wide-2 c = omega (arith, i-few c, c .before .before .before .be
 wide-requires-2 : tie.Need-wide-requires-2 Inv-loop μ-loop
 wide-requires-2 c κs = search needs
 
-fact-at-requires : tie.Need-fact-at-requires Inv-loop μ-loop
-fact-at-requires c κs = omega (arith, i-few (c .before .before .before), c .before .before .before .before .before .before .before .before .pre .rising .whole)
+row-fact-requires : tie.Need-row-fact-requires Inv-loop μ-loop
+row-fact-requires c κs = omega (arith, i-few (c .before .before .before), c .before .before .before .before .before .before .before .before .pre .rising .whole)
+
+may-come-before-requires : tie.Need-may-come-before-requires Inv-loop μ-loop
+may-come-before-requires c κs = c .before .before .before .before .before .before .before .before .before .pre .rising
 
 part-of-requires : tie.Need-part-of-requires Inv-loop μ-loop
-part-of-requires c κs = c .before .before .before .before .before .before .before .before .before .before .pre .rising
+part-of-requires c κs = c .before .before .before .before .before .before .before .before .before .before .before .before .pre .rising
 
 first-end-requires : tie.Need-first-end-requires Inv-loop μ-loop
 first-end-requires c κs =
     omega (
       arith,
-      part-within (c .before .before .before .before .before .before .before .before .before .before .before .pre .rising .few) (c .part-of .ensures) .0,
-      c .before .before .before .before .before .before .before .before .before .before .before .pre .rising .whole,
+      part-within (c .before .before .before .before .before .before .before .before .before .before .before .before .before .pre .rising .few) (c .part-of .ensures) .0,
+      c .before .before .before .before .before .before .before .before .before .before .before .before .before .pre .rising .whole,
     )
 
 array-write-done : tie.Need-array-write-done Inv-loop μ-loop
-array-write-done c = omega (arith, part-within (c .before .before .before .before .before .before .before .before .before .before .before .before .pre .rising .few) (c .before .part-of .ensures) .1)
+array-write-done c = omega (arith, part-within (c .before .before .before .before .before .before .before .before .before .before .before .before .before .before .pre .rising .few) (c .before .part-of .ensures) .1)
 
 add-q : tie.Need-add-q Inv-loop μ-loop
 add-q c = omega (arith, c .before .before .before .before .before .loop-test .taken)
@@ -79,13 +83,17 @@ loop-again c =
     ⊎-elim
     (λ w.
     let f = w .1 .ensures ∙ ap (rowFact (a .row .now)) i in
-    let p = w .3 .result in
-    let part = subst (λ (g : Fact). PartOf (a .row .now) (a .n) (a .w) g (l .done) (p .from) (p .to) (p .slot)) f (w .3 .ensures) in
-    let first = subst (λ (g : Fact). FirstEnd (a .row .now) (a .w) (a .t) g (p .from) (p .to) (l .best) (w .4 .result)) f (w .4 .ensures) in
-    rw (w .5, w .6)
+    let p = w .5 .result in
+    let part = subst (λ (g : Fact). PartOf (a .row .now) (a .n) (a .w) g (l .done) (p .from) (p .to) (p .slot)) f (w .5 .ensures) in
+    let first = subst (λ (g : Fact). FirstEnd (a .row .now) (a .w) (a .t) g (p .from) (p .to) (l .best) (w .6 .result)) f (w .6 .ensures) in
+    rw (w .7, w .8)
     (ending-more _ _ _ _ _ _ _ (l .best) _ (l .done) (l .q) (z .pre .rising) (z .pre .some) (z .pre .queued .inside (l .q) (c .before .before .before .before .before .loop-test .taken)) (sym k
     ∙ w .0 .taken) part first (l .inv)))
-    (λ w. rw (w .1, w .2) (ending-skip _ _ _ _ _ _ _ _ _ (l .q) (l .inv) (λ e. w .0 .left (k ∙ e)))) (c .if1 .came)
+    (⊎-elim
+    (λ w.
+    let behind = ap (λ (g : Fact). mayComeBefore (a .row .now) (a .n) g (l .best)) (sym (w .1 .ensures ∙ ap (rowFact (a .row .now)) i)) ∙ sym (w .2 .ensures) ∙ w .3 .left in
+    rw (w .4, w .5) (ending-skip _ _ _ _ _ _ _ _ _ (l .q) (l .inv) (λ e. behind-passed _ _ _ _ _ (l .best) (z .pre .rising) behind (λ b h g. h))))
+    (λ w. rw (w .1, w .2) (ending-skip _ _ _ _ _ _ _ _ _ (l .q) (l .inv) (λ e. absurd (w .0 .left (k ∙ e)))))) (c .if1 .came)
 
 returns : tie.Need-returns Inv-loop μ-loop
 returns c = let l = c .before .loop in ending-end _ _ _ _ _ _ _ _ (l .best) (l .done) (l .q) (c .before .before .before .pre) (l .inv) (c .loop-test .left)
@@ -103,7 +111,8 @@ last-spec =
     mul-wide-2
     element-copy-out-wide-2
     wide-requires-2
-    fact-at-requires
+    row-fact-requires
+    may-come-before-requires
     part-of-requires
     first-end-requires
     array-write-done

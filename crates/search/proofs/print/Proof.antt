@@ -37,7 +37,7 @@ first-line : (c : tie.After-put-line Inv-loop μ-loop) → let z = c .before .be
     c .put-line .last .1 .0 ≡ over (bytesOf (factAt (z .args .row .now) (z .args .path .now)) 1) (z .args .out .now)
 first-line c =
     let z = c .before .before .before .before .before .before .before .before .before in
-    let f = c .before .before .before .fact-at .ensures ∙ ap (rowFact (z .args .row .now)) (c .before .before .before .before .wide .ensures) in
+    let f = c .before .before .before .row-fact .ensures ∙ ap (rowFact (z .args .row .now)) (c .before .before .before .before .wide .ensures) in
     let l = c .before .before .table-line .ensures ∙ ap (line 0 0 0) f in
     c .put-line .ensures ∙ ap (λ (x : List ℕ). over x (z .args .out .now)) (ap lineBytes l ∙ sym (bytes-first (factAt (z .args .row .now) (z .args .path .now))))
 
@@ -47,8 +47,8 @@ shared-slice-read-wide c = omega (arith, c .before .before .before .before .pre 
 wide-requires : tie.Need-wide-requires Inv-loop μ-loop
 wide-requires c κs = search needs
 
-fact-at-requires : tie.Need-fact-at-requires Inv-loop μ-loop
-fact-at-requires c κs = let z = c .before .before .before .before .before in omega (arith, z .pre .placed .inside 0 (z .pre .placed .some), z .pre .placed .whole, c .wide .ensures)
+row-fact-requires : tie.Need-row-fact-requires Inv-loop μ-loop
+row-fact-requires c κs = let z = c .before .before .before .before .before in omega (arith, z .pre .placed .inside 0 (z .pre .placed .some), z .pre .placed .whole, c .wide .ensures)
 
 table-line-requires : tie.Need-table-line-requires Inv-loop μ-loop
 table-line-requires c κs = search needs
@@ -67,7 +67,7 @@ loop-holds c =
       refl,
       refl,
       e ∙ sym (over-over (bytesOf g 1) (bytesOf g 1) (z .args .out .now) (omega arith)) ∙ ap (over (bytesOf g 1)) (sym e),
-      c .before .before .before .before .before .fact-at .ensures ∙ ap (rowFact (z .args .row .now)) (c .before .before .before .before .before .before .wide .ensures) ∙ sym (result-first g),
+      c .before .before .before .before .before .row-fact .ensures ∙ ap (rowFact (z .args .row .now)) (c .before .before .before .before .before .before .wide .ensures) ∙ sym (result-first g),
     )
 
 mul-wide : tie.Need-mul-wide Inv-loop μ-loop
@@ -79,8 +79,8 @@ shared-slice-read-wide-2 c = omega (arith, c .before .before .before .before .be
 wide-requires-2 : tie.Need-wide-requires-2 Inv-loop μ-loop
 wide-requires-2 c κs = search needs
 
-fact-at-requires-2 : tie.Need-fact-at-requires-2 Inv-loop μ-loop
-fact-at-requires-2 c κs = let z =
+row-fact-requires-2 : tie.Need-row-fact-requires-2 Inv-loop μ-loop
+row-fact-requires-2 c κs = let z =
     c .before .before .before .before .before .before .before .before .before .before .before .before .before .before .before in omega (
       arith,
       z .pre .placed .inside (c .before .before .before .loop .k) (c .before .before .loop-test .taken),
@@ -180,7 +180,7 @@ loop-again c =
     let p = c .before .before .put-joined in
     let o = c .before .before .before .before .before .before .before .before .before .before .before .put-line .last .1 .0 in
     let g = factAt (z .args .row .now) (z .args .path .now) in
-    let here : c .before .before .before .before .fact-at2 .result ≡ g (l .k) = c .before .before .before .before .fact-at2 .ensures ∙ ap (rowFact (z .args .row .now))
+    let here : c .before .before .before .before .row-fact2 .result ≡ g (l .k) = c .before .before .before .before .row-fact2 .ensures ∙ ap (rowFact (z .args .row .now))
     (c .before .before .before .before .before .wide2 .ensures) in
     let new : List Line = line 0 0 0 (g (l .k)) ∷ join (resultAt g (l .k)) (2 * l .k - 1) (g (l .k)) ∷ [] in
     let m = bytes-more g (l .k) (l .inv .0) in
@@ -228,14 +228,14 @@ print-spec =
     μ-loop
     shared-slice-read-wide
     wide-requires
-    fact-at-requires
+    row-fact-requires
     table-line-requires
     put-line-requires
     loop-holds
     mul-wide
     shared-slice-read-wide-2
     wide-requires-2
-    fact-at-requires-2
+    row-fact-requires-2
     sub-put-joined
     part-put-joined-start
     part-put-joined-end

@@ -9,14 +9,14 @@ use borrow.Author.Needs.{needs}
 use Rattle.search.proofs.print_order.Statement.{statement}
 use Rattle.search.proofs.print_order.Tie as tie
 
-slice-read-fact-at : tie.Need-slice-read-fact-at
-slice-read-fact-at c = search needs
+slice-read-row-fact : tie.Need-slice-read-row-fact
+slice-read-row-fact c = search needs
 
-cast-fact-at : tie.Need-cast-fact-at
-cast-fact-at c = let z = c .before .before .before in omega (arith, z .pre .inside 0 (z .pre .some), z .pre .whole, z .good)
+cast-row-fact : tie.Need-cast-row-fact
+cast-row-fact c = let z = c .before .before .before in omega (arith, z .pre .inside 0 (z .pre .some), z .pre .whole, z .good)
 
-fact-at-requires : tie.Need-fact-at-requires
-fact-at-requires c κs = let z = c .before .before .before in omega (arith, z .pre .inside 0 (z .pre .some), z .pre .whole)
+row-fact-requires : tie.Need-row-fact-requires
+row-fact-requires c κs = let z = c .before .before .before in omega (arith, z .pre .inside 0 (z .pre .some), z .pre .whole)
 
 is-name-requires : tie.Need-is-name-requires
 is-name-requires c κs = search needs
@@ -34,23 +34,23 @@ returns : tie.Need-returns
 returns c =
     let d = c .before .before .before .before .before .before in
     let z = c .before .before .before .before .before .before .before .before .before .before .before .before in
-    rotated-print (z .args .row .now) (z .args .f) _ _ _ (z .pre .room) (ap (λ (f : Fact). named (f .predicate)) (sym (d .before .before .fact-at .ensures)) ∙ sym (d .before .is-name .ensures)
+    rotated-print (z .args .row .now) (z .args .f) _ _ _ (z .pre .room) (ap (λ (f : Fact). named (f .predicate)) (sym (d .before .before .row-fact .ensures)) ∙ sym (d .before .is-name .ensures)
     ∙ d .if1 .taken)
     (c .before .before .before .before .sp-run .ensures) (c .before .before .rotate .ensures)
 
 returns-2 : tie.Need-returns-2
 returns-2 c =
     let z = c .before .before .before .before .before .before in
-    print-same (z .args .row .now) (z .args .f) _ (z .pre .some) (z .pre .room) (ap (λ (f : Fact). named (f .predicate)) (sym (c .before .before .fact-at .ensures)) ∙ sym (c .before .is-name .ensures)
+    print-same (z .args .row .now) (z .args .f) _ (z .pre .some) (z .pre .room) (ap (λ (f : Fact). named (f .predicate)) (sym (c .before .before .row-fact .ensures)) ∙ sym (c .before .is-name .ensures)
     ∙ c .if1 .left)
 
 pub print-order-spec : {M : Type 1} → statement M
 print-order-spec =
     tie.close
     (tie.spec
-    slice-read-fact-at
-    cast-fact-at
-    fact-at-requires
+    slice-read-row-fact
+    cast-row-fact
+    row-fact-requires
     is-name-requires
     sp-run-requires
     rotate-requires

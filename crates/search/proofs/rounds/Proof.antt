@@ -52,7 +52,7 @@ part-at : (c : tie.After-part-of Inv-loop2 μ-loop2 Inv-loop μ-loop Inv-passes 
 part-at c =
     let z = c .before .before .before .before .before .before .before .before .before in let p = c .part-of .result in
     subst (λ (f : Fact). PartOf (z .args .row .now) (z .args .n) (z .args .w) f (c .before .before .before .before .before .loop .done) (p .from) (p .to) (p .slot))
-    (c .before .before .fact-at .ensures) (c .part-of .ensures)
+    (c .before .before .row-fact .ensures) (c .part-of .ensures)
 
 j-few : (c : tie.In-loop2 Inv-loop2 μ-loop2 Inv-loop μ-loop Inv-passes μ-passes) → c .before .loop2 .j < c .before .before .before .before .before .before .before .before .before .before .before .args .n
 j-few c = omega (arith, c .loop2-test .taken, part-within (c .before .before .before .before .before .before .before .before .before .before .before .pre .rising .few) (part-at (c .before .before)) .0)
@@ -87,8 +87,8 @@ element-copy-out-i c = q-few c
 cast-i : tie.Need-cast-i Inv-loop2 μ-loop2 Inv-loop μ-loop Inv-passes μ-passes
 cast-i c = omega (arith, i-few (c .before), c .before .before .before .before .before .before .pre .rising .few)
 
-fact-at-requires : tie.Need-fact-at-requires Inv-loop2 μ-loop2 Inv-loop μ-loop Inv-passes μ-passes
-fact-at-requires c κs = omega (arith, i-few (c .before), c .before .before .before .before .before .before .pre .rising .whole)
+row-fact-requires : tie.Need-row-fact-requires Inv-loop2 μ-loop2 Inv-loop μ-loop Inv-passes μ-passes
+row-fact-requires c κs = omega (arith, i-few (c .before), c .before .before .before .before .before .before .pre .rising .whole)
 
 part-of-requires : tie.Need-part-of-requires Inv-loop2 μ-loop2 Inv-loop μ-loop Inv-passes μ-passes
 part-of-requires c κs = c .before .before .before .before .before .before .before .before .pre .rising
@@ -108,9 +108,9 @@ element-copy-out-if1 :
     tie.Need-element-copy-out-if1 Inv-loop2 μ-loop2 Inv-loop μ-loop Inv-passes μ-passes
 element-copy-out-if1 c = omega (arith, j-few c, c .before .before .before .before .before .before .before .before .before .before .before .pre .rising .few)
 
-fact-at-requires-2 :
-    tie.Need-fact-at-requires-2 Inv-loop2 μ-loop2 Inv-loop μ-loop Inv-passes μ-passes
-fact-at-requires-2 c κs = omega (arith, j-few (c .before .before), c .before .before .before .before .before .before .before .before .before .before .before .before .before .pre .rising .whole)
+row-fact-requires-2 :
+    tie.Need-row-fact-requires-2 Inv-loop2 μ-loop2 Inv-loop μ-loop Inv-passes μ-passes
+row-fact-requires-2 c κs = omega (arith, j-few (c .before .before), c .before .before .before .before .before .before .before .before .before .before .before .before .before .pre .rising .whole)
 
 follows-requires : tie.Need-follows-requires Inv-loop2 μ-loop2 Inv-loop μ-loop Inv-passes μ-passes
 follows-requires c κs = search needs
@@ -172,7 +172,7 @@ loop2-again c =
     let l = c .before .before .before .loop2 in
     let z = c .before .before .before .before .before .before .before .before .before .before .before .before .before in
     let d = l .inv .0 in
-    let a = c .before .before .before .before .before .before .fact-at .ensures in
+    let a = c .before .before .before .before .before .before .row-fact .ensures in
     let way = next (z .args .w) in
     ⊎-elim
     (λ w.
@@ -228,12 +228,12 @@ returns-2 : tie.Need-returns-2 Inv-loop2 μ-loop2 Inv-loop μ-loop Inv-passes μ
 returns-2 c =
     let l = c .before .before .before .before .before .before .before .before .loop2 in
     let z = c .before .before .before .before .before .before .before .before .before .before .before .before .before .before .before .before .before .before in
-    let b = c .before .before .before .before .fact-at2 .ensures in
+    let b = c .before .before .before .before .row-fact2 .ensures in
     let k = c .before .before .before .before .before .before .before .before .before .before .before .before .before .before .before .before .passes .layer in
     left-met _ _ _ _ k _
     (inner-met _ _ _ _ (l .j) (z .pre .rising .few) (l .inv .0) (j-few (c .before .before .before .before .before .before .before)) (c .before .before .before .before .before .if1 .taken)
     (holds-of-both (next (z .args .w)) (c .before .before .before .follows .ensures)
-    (c .before .before .before .before .before .before .before .before .before .before .before .fact-at .ensures) b (c .before .before .if2 .taken)) (holds-of (goal (z .args .t))
+    (c .before .before .before .before .before .before .before .before .before .before .before .row-fact .ensures) b (c .before .before .if2 .taken)) (holds-of (goal (z .args .t))
     (c .before .ends .ensures) b (c .if3 .taken)))
 
 pub rounds-spec : {M : Type 1} → statement M
@@ -251,12 +251,12 @@ rounds-spec =
     mul-i
     element-copy-out-i
     cast-i
-    fact-at-requires
+    row-fact-requires
     part-of-requires
     loop2-holds
     mul-if1
     element-copy-out-if1
-    fact-at-requires-2
+    row-fact-requires-2
     follows-requires
     add-s
     cast-s

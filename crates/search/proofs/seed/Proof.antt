@@ -33,8 +33,8 @@ loop-holds c =
     let a = c .before .before .args in
     (subst (λ (s : State). Seeding (a .row .now) (a .n) (a .w) (a .t) 0 s) (sym (c .blank .ensures)) (seeding-zero _ _ _ _), omega arith)
 
-fact-at-requires : tie.Need-fact-at-requires Inv-loop μ-loop
-fact-at-requires c κs = omega arith
+row-fact-requires : tie.Need-row-fact-requires Inv-loop μ-loop
+row-fact-requires c κs = omega arith
 
 starts-requires : tie.Need-starts-requires Inv-loop μ-loop
 starts-requires c κs = search needs
@@ -65,7 +65,7 @@ returns c =
     let d = c .before .before in
     let l = d .before .before .before .before .loop in
     let z = d .before .before .before .before .before .before .before in
-    let e = d .before .before .fact-at .ensures in (
+    let e = d .before .before .row-fact .ensures in (
       refl,
       seeding-met _ _ _ _ (l .j) (l .s) (z .pre .few) (l .inv .0) (d .before .before .before .loop-test .taken)
           (holds-of (start (z .args .w) (z .args .t)) (d .before .starts .ensures) e (d .if1 .taken)) (holds-of (goal (z .args .t)) (c .before .ends .ensures) e (c .if2 .taken)),
@@ -81,7 +81,7 @@ loop-again : tie.Need-loop-again Inv-loop μ-loop
 loop-again c =
     let l = c .before .before .before .before .loop in
     let z = c .before .before .before .before .before .before .before in
-    let e = c .before .before .fact-at .ensures in
+    let e = c .before .before .row-fact .ensures in
     let goes : State → Type 0 = λ s. Seeding (z .args .row .now) (z .args .n) (z .args .w) (z .args .t) (l .j + 1) s in (
       ⊎-elim
           (λ w. subst goes (sym (w .3)) (seeding-push _ _ _ _ (l .j) (l .s) (z .pre .few) (l .inv .0) (c .before .before .before .loop-test .taken)
@@ -102,7 +102,7 @@ seed-spec =
     μ-loop
     blank-requires
     loop-holds
-    fact-at-requires
+    row-fact-requires
     starts-requires
     mul-s
     element-write-s

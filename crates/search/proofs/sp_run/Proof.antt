@@ -24,20 +24,20 @@ loop-holds c = (c .before .before .pre .some, λ i l. absurd (omega arith))
 add-loop : tie.Need-add-loop Inv-loop μ-loop
 add-loop c = let z = c .before .before .before in omega (arith, c .loop .inv .0, z .fits .f)
 
-add-fact-at : tie.Need-add-fact-at Inv-loop μ-loop
-add-fact-at c = omega arith
+add-row-fact : tie.Need-add-row-fact Inv-loop μ-loop
+add-row-fact c = omega arith
 
-mul-fact-at : tie.Need-mul-fact-at Inv-loop μ-loop
-mul-fact-at c = let z = c .before .before .before .before in omega (arith, z .pre .room, z .good)
+mul-row-fact : tie.Need-mul-row-fact Inv-loop μ-loop
+mul-row-fact c = let z = c .before .before .before .before in omega (arith, z .pre .room, z .good)
 
-shared-slice-read-fact-at : tie.Need-shared-slice-read-fact-at Inv-loop μ-loop
-shared-slice-read-fact-at c = let z = c .before .before .before .before .before in omega (arith, z .pre .room)
+shared-slice-read-row-fact : tie.Need-shared-slice-read-row-fact Inv-loop μ-loop
+shared-slice-read-row-fact c = let z = c .before .before .before .before .before in omega (arith, z .pre .room)
 
-cast-fact-at : tie.Need-cast-fact-at Inv-loop μ-loop
-cast-fact-at c = let z = c .before .before .before .before .before in omega (arith, z .pre .inside (c .before .before .loop .k + 1) (omega arith), z .pre .whole, z .good)
+cast-row-fact : tie.Need-cast-row-fact Inv-loop μ-loop
+cast-row-fact c = let z = c .before .before .before .before .before in omega (arith, z .pre .inside (c .before .before .loop .k + 1) (omega arith), z .pre .whole, z .good)
 
-fact-at-requires : tie.Need-fact-at-requires Inv-loop μ-loop
-fact-at-requires c κs = let z = c .before .before .before .before .before in omega (arith, z .pre .inside (c .before .before .loop .k + 1) (omega arith), z .pre .whole)
+row-fact-requires : tie.Need-row-fact-requires Inv-loop μ-loop
+row-fact-requires c κs = let z = c .before .before .before .before .before in omega (arith, z .pre .inside (c .before .before .loop .k + 1) (omega arith), z .pre .whole)
 
 add-k : tie.Need-add-k Inv-loop μ-loop
 add-k c = omega arith
@@ -50,7 +50,7 @@ loop-again c =
     let z = c .before .before .before .before .before .before .before .before in
     let l = c .before .before .before .before .before .loop in
     let at : ℕ → ℕ = λ y. rowFact (z .args .row .now) (getD (z .args .path .now) y 0) .predicate in
-    let here : at (suc (l .k)) ≡ 2 = ap at (sym (add-one (l .k))) ∙ ap (λ (f : Fact). f .predicate) (sym (c .before .before .fact-at .ensures)) ∙ c .if1 .taken in
+    let here : at (suc (l .k)) ≡ 2 = ap at (sym (add-one (l .k))) ∙ ap (λ (f : Fact). f .predicate) (sym (c .before .before .row-fact .ensures)) ∙ c .if1 .taken in
     (omega arith, λ i h. equal-or i (l .k) (λ e. ap (λ (y : ℕ). at (suc y)) e ∙ here) (λ e. l .inv .1 i (omega (arith, e))))
 
 returns : tie.Need-returns Inv-loop μ-loop
@@ -58,7 +58,7 @@ returns c =
     let z = c .before .before .before .before .before .before .before .before in
     let l = c .before .before .before .before .before .loop in
     let at : ℕ → ℕ = λ y. rowFact (z .args .row .now) (getD (z .args .path .now) y 0) .predicate in
-    record { short = l .inv .0; all = l .inv .1; stops = inr (λ y. c .if1 .left (ap (λ (f : Fact). f .predicate) (c .before .before .fact-at .ensures) ∙ ap at (add-one (l .k)) ∙ y)) }
+    record { short = l .inv .0; all = l .inv .1; stops = inr (λ y. c .if1 .left (ap (λ (f : Fact). f .predicate) (c .before .before .row-fact .ensures) ∙ ap at (add-one (l .k)) ∙ y)) }
 
 returns-2 : tie.Need-returns-2 Inv-loop μ-loop
 returns-2 c = let l = c .before .loop in record { short = l .inv .0; all = l .inv .1; stops = inl (omega (arith, l .inv .0, c .loop-test .left)) }
@@ -71,11 +71,11 @@ sp-run-spec =
     μ-loop
     loop-holds
     add-loop
-    add-fact-at
-    mul-fact-at
-    shared-slice-read-fact-at
-    cast-fact-at
-    fact-at-requires
+    add-row-fact
+    mul-row-fact
+    shared-slice-read-row-fact
+    cast-row-fact
+    row-fact-requires
     add-k
     loop-less
     loop-again

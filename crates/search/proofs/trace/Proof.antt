@@ -55,7 +55,7 @@ goes c t s m e d =
     let l = c .before .before .before .before .before .loop in
     let a = z .args in
     reading-step _ _ _ t _ s m _ (l .i) (l .i - 1) (l .j) _ (l .path) (omega (arith, c .before .before .before .before .loop-test .taken)) (room₁ (c .before .before .before .before .before .before)) d
-    (c .before2 .ensures .found ∙ ap (λ (y : Fact). beforeOf (a .row .now) (a .n) (a .w) (a .s .mark) (l .i) y) (c .before .before .before .fact-at .ensures)
+    (c .before2 .ensures .found ∙ ap (λ (y : Fact). beforeOf (a .row .now) (a .n) (a .w) (a .s .mark) (l .i) y) (c .before .before .before .row-fact .ensures)
     ∙ ap (λ (y : List ℕ). beforeOf (a .row .now) (a .n) (a .w) y (l .i) (rowFact (a .row .now) (l .j))) (sym e))
 
 next-few : (c : tie.After-before2 Inv-loop μ-loop) → c .before2 .result .at < c .before .before .before .before .before .before .before .before .before .before .before .before .before .args .n
@@ -83,8 +83,8 @@ loop-holds c =
     let z = c .before .before .before .before .before .before .before in
     (all-queued _ _ _ (z .pre .met .ordered), λ t s m e g h. reading-start _ _ _ t _ s m (z .args .path .now) (z .args .f - 1) _ g (z .pre .room) h)
 
-fact-at-requires : tie.Need-fact-at-requires Inv-loop μ-loop
-fact-at-requires c κs = omega (arith, reading-at (c .before) .inside, c .before .before .before .before .before .before .before .before .before .pre .rising .whole)
+row-fact-requires : tie.Need-row-fact-requires Inv-loop μ-loop
+row-fact-requires c κs = omega (arith, reading-at (c .before) .inside, c .before .before .before .before .before .before .before .before .before .pre .rising .whole)
 
 before-requires : tie.Need-before-requires Inv-loop μ-loop
 before-requires c κs = record { rising = c .before .before .before .before .before .before .before .before .before .before .before .before .pre .rising; queued = c .before .before .before .before .loop .inv .0; some = c .before .before .before .loop-test .taken }
@@ -138,7 +138,7 @@ trace-spec =
     mul-path
     slice-write-path
     loop-holds
-    fact-at-requires
+    row-fact-requires
     before-requires
     sub-i-2
     cast-path-2
