@@ -156,8 +156,9 @@ module _ (row : List ℕ) (n w : ℕ) (t : Fact) where
     pub begun : (i : ℕ) → i < j → T (start w t (rowFact row i)) → 0 < markAt s i
     pub clear : (i : ℕ) → j ≤ i → markAt s i ≡ 0
 
-  pub seeding-zero : Seeding 0 empty
-  seeding-zero = record { round = round-zero row n w t; from = refl; begun = λ i l. absurd (omega arith); clear = λ i l. unmarked i }
+  -- no start stands below j
+  pub seeding-begin : (j : ℕ) → ((i : ℕ) → i < j → T (start w t (rowFact row i)) → ⊥) → Seeding j empty
+  seeding-begin j out = record { round = round-zero row n w t; from = refl; begun = λ i l y. absurd (out i l y); clear = λ i l. unmarked i }
 
   pub seeding-push : (j : ℕ) (s : State) → n ≤ 1024 → Seeding j s → j < n → T (start w t (rowFact row j)) → (T (goal t (rowFact row j)) → ⊥) → Seeding (j + 1) (pushed s j 1)
   seeding-push j s few d h x g =
@@ -182,5 +183,6 @@ module _ (row : List ℕ) (n w : ℕ) (t : Fact) where
   pub seeding-met : (j : ℕ) (s : State) → n ≤ 1024 → Seeding j s → j < n → T (start w t (rowFact row j)) → T (goal t (rowFact row j)) → Met row n w t 1 (pushed s j 1)
   seeding-met j s few d h x g = push-met row n w t s j 0 0 0 few (d .round) h (d .clear j (omega arith)) (first (fact-in row j h) x) g
 
-  pub seeding-end : (s : State) (j : ℕ) → n ≤ j → Seeding j s → Round row n w t 1 0 (s .to) s
-  seeding-end s j e d = end-round row n w t s 0 0 0 (d .round) (λ i l y. d .begun i (omega arith) y) (omega arith) (omega arith) (λ p a b. absurd (omega arith)) (s .from)
+  -- no start stands from j on
+  pub seeding-end : (s : State) (j : ℕ) → ((i : ℕ) → i < n → T (start w t (rowFact row i)) → i < j) → Seeding j s → Round row n w t 1 0 (s .to) s
+  seeding-end s j all d = end-round row n w t s 0 0 0 (d .round) (λ i l y. d .begun i (all i l y) y) (omega arith) (omega arith) (λ p a b. absurd (omega arith)) (s .from)

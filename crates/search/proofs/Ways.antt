@@ -1,15 +1,16 @@
--- Where no data fact has the subject of t as its object, a path by range is a path by dom.
+-- Where paths begin: but by range, in facts with the subject of t; and where no data fact has that subject as its object, a path by
+-- range is a path by dom.
 -- Assumes nothing.
 use mathlib.Core.Path.{_≡_, refl, sym, ap, _∙_, subst}
 use mathlib.Core.Logic.{⊎-elim}
 use mathlib.Core.Bool.{true, false, _&&_, true≢false}
 use mathlib.Core.Option.{Option, none, some}
 use mathlib.Core.List.{List}
-use Prim.Native.Nat.{ℕ, _≤_, _<_}
+use Prim.Native.Nat.{ℕ, _+_, _≤_, _<_}
 use native.Mathlib.Omega.{arith}
 use lib.Dec.{T, eqb}
-use mir.Facts.{and-yes, yes-and}
-use borrow.Author.Tests.{eq-eqb}
+use mir.Facts.{and-yes, yes-and, eqb-yes}
+use borrow.Author.Tests.{ne-eqb}
 use Rattle.facts.specs.declared.Fact.{Fact}
 use Rattle.facts.specs.Terms.{kindOf, sc, dom, range, type}
 use Rattle.facts.specs.Facts.{fact}
@@ -19,10 +20,30 @@ use Rattle.rules.specs.Graph.{_∈_, Path, first, step, least}
 use Rattle.rules.specs.Paths.{named, property, chain, onlyTable, goesOn, next, typed, start}
 use Rattle.rules.proofs.Graph.{Answer, least-answer}
 use Rattle.rules.proofs.Chosen.{least-below}
-use Rattle.rules.proofs.Paths.{next-says, start-other, property-of}
-use Rattle.search.specs.Row.{factsOf}
+use Rattle.rules.proofs.Paths.{next-says, start-other, start-data, property-of}
+use Rattle.search.specs.Row.{factsOf, Cut}
+use Rattle.search.specs.State.{Starting}
 use Rattle.search.specs.Trace.{orElse, into}
-use Rattle.search.proofs.Laws.{place-of}
+use Rattle.search.proofs.Laws.{place-of, most-or}
+
+start-subject : (w : ℕ) (t a : Fact) → (w ≡ 4 → ⊥) → T (start w t a) → a .subject ≡ t .subject
+unfolding start typed
+start-subject w t a h s =
+    by-cases (named (a .predicate))
+    (λ d. by-cases (named (t .predicate))
+    (λ e. start-data w t a e s .1)
+    (λ e. eqb-yes (and-yes (eqb (t .predicate) type) (eqb (a .subject) (t .subject)) (rw (d, e, ne-eqb w 4 h) at s) .1)))
+    (λ d. start-other w t a d s .1)
+
+-- so they stand in the part of that subject
+pub starting-run : (row : List ℕ) (n w : ℕ) (t : Fact) (lo hi : ℕ) → (w ≡ 4 → ⊥) → Cut row n (t .subject) lo → Cut row n (t .subject + 1) hi → Starting row n w t lo hi
+starting-run row n w t lo hi h low high = record {
+  begins = low .within;
+  within = high .within;
+  all = λ i l s.
+      let e = start-subject w t (rowFact row i) h s in
+      (most-or lo i (λ c. c) (λ c. absurd (omega (arith, low .below i c, e))), most-or hi i (λ c. absurd (omega (arith, high .above i c l, e))) (λ c. c));
+}
 
 -- a type or sc fact: it leads to a class, and a chain goes on from it
 record Classing (a : Fact) : Type 0 where

@@ -76,6 +76,12 @@ module _ (row : List ℕ) (n w : ℕ) (t : Fact) where
   Left zero s = Nowhere
   Left (suc f) s = Met (suc f) s
 
+-- every start of a path by w for t stands from `from` on, below `to`
+pub record Starting (row : List ℕ) (n w : ℕ) (t : Fact) (from to : ℕ) : Type 0 where
+  pub begins : from ≤ n
+  pub within : to ≤ n
+  pub all : (i : ℕ) → i < n → T (start w t (rowFact row i)) → (from ≤ i) × (i < to)
+
 -- after the first round: a start is a goal, or the starts are marked and queued
 abbrev pub Seed : List ℕ → ℕ → ℕ → Fact → ℕ → State → Type 0
 Seed row n w t zero s = Round row n w t 1 0 (s .to) s × (s .from ≡ 0)

@@ -29,7 +29,7 @@ ghost use Rattle.search.specs.Trace.{orElse, single, into, ending, Queue
 ghost use Rattle.search.specs.Answer.{Given, Gives, Answers};
 ghost use Rattle.search.specs.Question.{needed, asked, answerOf, printedFor, written, Settling, Answered};
 ghost use Rattle.search.specs.Order.{Placed, Run, Rotated, InPrint, Printing, factsAt};
-ghost use Rattle.search.specs.State.{empty, Left, Seeded, Begun, slotOf, PartOf};
+ghost use Rattle.search.specs.State.{empty, Starting, Left, Seeded, Begun, slotOf, PartOf};
 
 // The vocabulary.
 const SC: u32 = 1;
@@ -195,14 +195,36 @@ fn blank() -> State
     }
 }
 
+// Places that stand together.
+pub struct Span {
+    pub from: usize,
+    pub to: usize,
+}
+
+// Where the starts of a path by w for t stand: among the facts with the subject of t, and by range anywhere.
+fn starting(row: &[u32], n: usize, w: u32, t: Fact) -> Span
+    requires { ⌜ Rising (now row) n ⌝ }
+    ensures { λ r. ⌜ Starting (now (row .entry)) n w t (r .from) (r .to) ⌝ }
+{
+    if w == RANGE {
+        return Span { from: 0, to: n };
+    }
+    let x = t.subject;
+    let lo = lower_bound(row, n, x);
+    let hi = run_end(row, n, x, lo);
+    Span { from: lo, to: hi }
+}
+
 // The first layer: marks and queues the starts, up to one that is a goal.
 fn seed(row: &[u32], n: usize, w: u32, t: Fact) -> Reached
     requires { ⌜ Rising (now row) n ⌝ }
     ensures { λ r. ⌜ Seeded (now (row .entry)) n w t r ⌝ }
 {
     let mut s = blank();
-    let mut j = 0;
-    while j < n {
+    let span = starting(row, n, w, t);
+    let end = span.to;
+    let mut j = span.from;
+    while j < end {
         let a = row_fact(row, j);
         if starts(w, t, a) {
             s.mark[j] = 1;
