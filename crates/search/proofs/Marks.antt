@@ -4,6 +4,7 @@ use mathlib.Core.Path.{_≡_, refl, sym, ap, _∙_, subst}
 use mathlib.Core.List.{List}
 use Prim.Native.Nat.{ℕ, suc, _+_, _≤_, _<_}
 use native.Mathlib.Omega.{arith}
+use lib.ListN.{set}
 use lib.Dec.{T}
 use Rattle.facts.specs.declared.Fact.{Fact}
 use Rattle.rules.specs.Graph.{Path, first, step}
@@ -14,7 +15,7 @@ use Rattle.search.specs.declared.State.{State}
 use Rattle.table.specs.Tables.{rowFact}
 use Rattle.search.specs.Row.{factsOf}
 use Rattle.search.specs.State.{markAt, placeAt, Ordered, Way, Sound, Round, Met, Nowhere, empty}
-use Rattle.search.proofs.Laws.{pushed, equal-or, most-or, fact-in, place-of, new-mark, stays, kept, mark-at-end, push-ordered, old-mark, unmarked, empty-ordered}
+use Rattle.search.proofs.Laws.{pushed, old-place, equal-or, most-or, fact-in, place-of, new-mark, stays, kept, mark-at-end, push-ordered, old-mark, unmarked, empty-ordered}
 
 module _ (row : List ℕ) (n w : ℕ) (t : Fact) where
   -- every mark is at most k + 1
@@ -59,11 +60,18 @@ module _ (row : List ℕ) (n w : ℕ) (t : Fact) where
         reached = λ i l m p q. push-reached s j k few o h z i (r .reached i l m p q);
       }
 
-  -- a place that is a goal ends the search
-  pub push-met : (s : State) (j k from end : ℕ) → n ≤ 1024 → Round row n w t k from end s → j < n → markAt s j ≡ 0
-      → Way row n w t j (suc k) → T (goal t (rowFact row j)) → Met row n w t (suc k) (pushed s j (suc k))
-  push-met s j k from end few r h z c g = record {
-    ordered = push-ordered n s j few (r .ordered) h z k (near r);
+  -- the places queued in [from, q) have had all that may follow them marked
+  abbrev pub Passed : State → ℕ → ℕ → Type 0
+  Passed s from q = (p : ℕ) → from ≤ p → p < q → (j : ℕ) → j < n → T (next w (rowFact row (placeAt s p)) (rowFact row j)) → 0 < markAt s j
+
+  -- a place that is a goal ends the search; what has been passed before led to none
+  pub push-met : (s : State) (j k from end x : ℕ) → n ≤ 1024 → Round row n w t k from end s → j < n → markAt s j ≡ 0
+      → Way row n w t j (suc k) → T (goal t (rowFact row j)) → x ≤ s .to → Passed s from x
+      → Met row n w t (suc k) (record { mark = set (s .mark) j (suc k); queue = set (s .queue) (s .to) j; from = x; to = s .to + 1 })
+  push-met s j k from end x few r h z c g in-queue pass = record {
+    ordered =
+        let o = push-ordered n s j few (r .ordered) h z k (near r) in
+        record { marks = o .marks; places = o .places; all = o .all; queued = o .queued; listed = o .listed; rising = o .rising };
     sound = push-sound s j k few (r .ordered) h z (r .sound) c;
     whole = λ i l m p q. push-reached s j k few (r .ordered) h z i (r .reached i l m p (omega arith));
     end = rowFact row j;
@@ -72,11 +80,10 @@ module _ (row : List ℕ) (n w : ℕ) (t : Fact) where
     lowest = λ a m p x. most-or m k (λ l. let d = place-of row n (end-in p) in
         let u = r .reached (d .0) (d .1) m (subst (λ (y : Fact). Path (start w t) (next w) (factsOf row n) y m) (sym (d .2)) p) l in
         absurd (r .plain (d .0) (u .0) (subst (λ (y : Fact). T (goal t y)) (sym (d .2)) x))) (λ l. l);
+    early = λ m e q l u b i y. most-or from q
+        (λ a. r .plain b (pass q a l b i (subst (λ (v : ℕ). T (next w (rowFact row v) (rowFact row b))) (old-place s j (suc k) q (omega arith)) y)))
+        (λ a. absurd (omega (arith, r .before q a, kept n s j few (r .ordered) h z (suc k) q (omega arith), u)));
   }
-
-  -- the places queued in [from, q) have had all that may follow them marked
-  abbrev pub Passed : State → ℕ → ℕ → Type 0
-  Passed s from q = (p : ℕ) → from ≤ p → p < q → (j : ℕ) → j < n → T (next w (rowFact row (placeAt s p)) (rowFact row j)) → 0 < markAt s j
 
   -- where a place marked k is queued
   pub frontier : {s : State} {k from end : ℕ} → Round row n w t k from end s → (i : ℕ) → 0 < markAt s i → markAt s i ≡ k
@@ -181,7 +188,8 @@ module _ (row : List ℕ) (n w : ℕ) (t : Fact) where
   }
 
   pub seeding-met : (j : ℕ) (s : State) → n ≤ 1024 → Seeding j s → j < n → T (start w t (rowFact row j)) → T (goal t (rowFact row j)) → Met row n w t 1 (pushed s j 1)
-  seeding-met j s few d h x g = push-met row n w t s j 0 0 0 few (d .round) h (d .clear j (omega arith)) (first (fact-in row j h) x) g
+  seeding-met j s few d h x g =
+      push-met row n w t s j 0 0 0 (s .from) few (d .round) h (d .clear j (omega arith)) (first (fact-in row j h) x) g (omega (arith, d .from)) (λ p a b. absurd (omega (arith, d .from)))
 
   -- no start stands from j on
   pub seeding-end : (s : State) (j : ℕ) → ((i : ℕ) → i < n → T (start w t (rowFact row i)) → i < j) → Seeding j s → Round row n w t 1 0 (s .to) s

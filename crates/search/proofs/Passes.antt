@@ -5,6 +5,7 @@ use mathlib.Core.List.{List}
 use Prim.Native.Nat.{ℕ, zero, suc, _+_, _≤_, _<_}
 use native.Mathlib.Numerals.{add-one}
 use native.Mathlib.Omega.{arith}
+use lib.ListN.{set}
 use lib.Dec.{T}
 use Rattle.facts.specs.declared.Fact.{Fact}
 use Rattle.rules.specs.Graph.{step}
@@ -93,9 +94,12 @@ module _ (row : List ℕ) (n w : ℕ) (t : Fact) where
     pub inner-push : (T (goal t (rowFact row j)) → ⊥) → Inner k from end q i lo (j + 1) (pushed s j (k + 1))
     inner-push g = subst (λ (m : ℕ). Inner k from end q i lo (j + 1) (pushed s j m)) (sym (add-one k)) (inner-push′ g)
 
-    -- and one that is a goal ends the search
-    pub inner-met : T (goal t (rowFact row j)) → Met row n w t (suc k) (pushed s j (k + 1))
-    inner-met g = subst (λ (m : ℕ). Met row n w t (suc k) (pushed s j m)) (sym (add-one k)) (push-met row n w t s j k from end few (d .middle .round) h z way g)
+    -- and one that is a goal ends the search at the place q of the queue
+    pub inner-met : T (goal t (rowFact row j)) → Met row n w t (suc k) (record { mark = set (s .mark) j (k + 1); queue = set (s .queue) (s .to) j; from = q; to = s .to + 1 })
+    inner-met g =
+        let m = d .middle in
+        subst (λ (y : ℕ). Met row n w t (suc k) (record { mark = set (s .mark) j y; queue = set (s .queue) (s .to) j; from = q; to = s .to + 1 })) (sym (add-one k))
+        (push-met row n w t s j k from end q few (m .round) h z way g (omega (arith, m .high, m .ends)) (m .passed))
 
   -- so the place has been passed
   pub inner-end : {k from end q i lo : ℕ} (j : ℕ) {s : State} → Inner k from end q i lo j s → Followed row n w (Marked (s .mark)) i → Middle k from end (q + 1) s

@@ -19,7 +19,7 @@ use Rattle.rules.proofs.Graph.{Answer, least-answer}
 use Rattle.rules.proofs.Chosen.{least-below, least-some}
 use Rattle.search.specs.declared.State.{State}
 use Rattle.search.specs.Row.{Rising}
-use Rattle.search.specs.State.{Ordered, PartOf}
+use Rattle.search.specs.State.{Ordered, PartOf, Early}
 use Rattle.search.specs.Trace.{orElse, precedes, comesBy, ending, Queued, Stepping, Stepped, FirstEnd}
 use Rattle.search.proofs.Laws.{equal-or, most-or, to-most}
 use Rattle.search.proofs.Parts.{Followed, Noted, note-none, note-more, part-passed, part-noted, part-within}
@@ -129,8 +129,8 @@ module _ (row : List ℕ) (n w : ℕ) (mark queue : List ℕ) (m : ℕ) where
       pub passed : (p : ℕ) → p < q → markOf p ≡ m → Followed row n w (NotBelow best) (getD queue p 0)
       pub noted : Noted row n w (NotBelow best) done
 
-    pub ending-begin : (k : ℕ) → Ending n (replicate k 0) 0
-    ending-begin k = record { is = inl refl; passed = λ p l. absurd (omega arith); noted = note-none row n w (NotBelow n) k }
+    pub ending-begin : (k q : ℕ) → Early row n w t mark queue m q → Ending n (replicate k 0) q
+    ending-begin k q early = record { is = inl refl; passed = λ p l e b h y g. absurd (early p l e b h y g); noted = note-none row n w (NotBelow n) k }
 
     -- a place that is not marked m, or leads to no goal before `best`
     pub ending-skip : (best : ℕ) (done : List ℕ) (q : ℕ) → Ending best done q → (markOf q ≡ m → Followed row n w (NotBelow best) (getD queue q 0)) → Ending best done (q + 1)

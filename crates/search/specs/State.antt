@@ -57,6 +57,11 @@ module _ (row : List ℕ) (n w : ℕ) (t : Fact) where
     pub plain : (i : ℕ) → 0 < markAt s i → T (goal t (rowFact row i)) → ⊥
     pub reached : (i : ℕ) → i < n → (m : ℕ) → Way i m → m ≤ k → (0 < markAt s i) × (markAt s i ≤ m)
 
+  -- no goal may follow a place marked m that is queued before `from`
+  abbrev pub Early : List ℕ → List ℕ → ℕ → ℕ → Type 0
+  Early mark queue m from =
+      (q : ℕ) → q < from → getD mark (getD queue q 0) 0 ≡ m → (b : ℕ) → b < n → T (next w (rowFact row (getD queue q 0)) (rowFact row b)) → T (goal t (rowFact row b)) → ⊥
+
   -- the marks below f are the numbers of facts of the shortest paths, a path of f facts leads to a goal, and none of fewer
   pub record Met (f : ℕ) (s : State) : Type 0 where
     pub ordered : Ordered n s
@@ -66,6 +71,7 @@ module _ (row : List ℕ) (n w : ℕ) (t : Fact) where
     pub path : Path (start w t) (next w) (factsOf row n) end f
     pub ends : T (goal t end)
     pub lowest : (a : Fact) (m : ℕ) → Path (start w t) (next w) (factsOf row n) a m → T (goal t a) → f ≤ m
+    pub early : (m : ℕ) → f ≡ suc m → Early (s .mark) (s .queue) m (s .from)
 
   -- no path leads to a goal
   abbrev pub Nowhere : Type 0

@@ -29,7 +29,7 @@ ghost use Rattle.search.specs.Trace.{orElse, single, into, ending, Queue
 ghost use Rattle.search.specs.Answer.{Given, Gives, Answers};
 ghost use Rattle.search.specs.Question.{needed, asked, answerOf, printedFor, written, Settling, Answered};
 ghost use Rattle.search.specs.Order.{Placed, Run, Rotated, InPrint, Printing, factsAt};
-ghost use Rattle.search.specs.State.{empty, Starting, Left, Seeded, Begun, slotOf, PartOf};
+ghost use Rattle.search.specs.State.{empty, Starting, Early, Left, Seeded, Begun, slotOf, PartOf};
 
 // The vocabulary.
 const SC: u32 = 1;
@@ -169,7 +169,8 @@ fn run_end(row: &[u32], n: usize, x: u32, lo: usize) -> usize
 }
 
 // The state of a search, document 01's "record of fixed size": a mark for each place (the layer in which it was reached, 0
-// for none), the places in the order in which they were reached, and the ends of the frontier among them.
+// for none), the places in the order in which they were reached, and the ends of the frontier among them. Where a goal was
+// reached, `from` is the place of the frontier that led to it.
 pub struct State {
     pub mark: [u16; PLACES],
     pub queue: [u16; PLACES],
@@ -321,6 +322,7 @@ fn rounds(row: &[u32], n: usize, w: u32, t: Fact, s0: State) -> Reached
                         s.queue[to] = j as u16;
                         s.to = to + 1;
                         if ends(t, b) {
+                            s.from = q;
                             found = layer + 1;
                             break 'passes;
                         }
@@ -449,8 +451,8 @@ fn may_come_before(row: &[u32], n: usize, a: Fact, at: usize) -> bool
     link_of(a) <= row[FIELDS * at]
 }
 
-// The first goal, or n, that may follow a place marked m: over these places, and from each over its part of the row, once,
-// where that may lead to an earlier goal than the first so far.
+// The first goal, or n, that may follow a place marked m: over these places, from the first that leads to a goal, and from each
+// over its part of the row, once, where that may lead to an earlier goal than the first so far.
 fn last(
     row: &[u32],
     n: usize,
@@ -459,14 +461,15 @@ fn last(
     m: usize,
     mark: &[u16; PLACES],
     queue: &[u16; PLACES],
+    from: usize,
     top: usize,
 ) -> usize
-    requires { ⌜ Stepping (now row) n (now mark) (now queue) m top ⌝ }
+    requires { ⌜ Stepping (now row) n (now mark) (now queue) m top × Early (now row) n w t (now mark) (now queue) m from ⌝ }
     ensures { λ r. ⌜ r ≡ orElse n (least (ending (now (row .entry)) n w (now (mark .entry)) t m) 0 n) ⌝ }
 {
     let mut best = n;
     let mut done = [0u8; NOTES];
-    let mut q = 0;
+    let mut q = from;
     while q < top {
         let i = wide(queue[q]);
         if wide(mark[i]) == m {
@@ -492,15 +495,16 @@ fn path_end(
     m: usize,
     mark: &[u16; PLACES],
     queue: &[u16; PLACES],
+    from: usize,
     top: usize,
 ) -> usize
-    requires { ⌜ Rising (now row) n × Queued n (now mark) (now queue) m top ⌝ }
+    requires { ⌜ Rising (now row) n × Queued n (now mark) (now queue) m top × Early (now row) n w t (now mark) (now queue) m from ⌝ }
     ensures { λ r. ⌜ r ≡ orElse n (least (ending (now (row .entry)) n w (now (mark .entry)) t m) 0 n) ⌝ }
 {
     if m == 0 {
         return first_alone(row, n, w, t);
     }
-    last(row, n, w, t, m, mark, queue, top)
+    last(row, n, w, t, m, mark, queue, from, top)
 }
 
 // Writes the places of the chosen path by w of f facts, from its end back.
@@ -510,9 +514,10 @@ fn trace(row: &[u32], n: usize, w: u32, t: Fact, f: usize, s: State, path: &mut 
 {
     let mark = s.mark;
     let queue = s.queue;
+    let from = s.from;
     let mut top = s.to;
     let mut i = f - 1;
-    let mut j = path_end(row, n, w, t, i, &mark, &queue, top);
+    let mut j = path_end(row, n, w, t, i, &mark, &queue, from, top);
     path[i] = j as u16;
     while 0 < i {
         let b = row_fact(row, j);

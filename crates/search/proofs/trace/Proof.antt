@@ -18,12 +18,12 @@ use Rattle.search.proofs.trace.Statement.{statement}
 use Rattle.search.proofs.trace.Tie as tie
 
 abbrev Inv-loop : tie.InvT-loop
-Inv-loop row n w f path₀ mark queue top₀ i₀ j₀ path top i j =
+Inv-loop row n w f path₀ mark queue from top₀ i₀ j₀ path top i j =
     Queued n mark queue i top
     × ((t : Fact) (s : State) (m : Met row n w t f s) → s .mark ≡ mark → f ≡ suc i₀ → j₀ ≡ orElse n (least (ending row n w (s .mark) t i₀) 0 n) → Reading row n w t f s m path₀ i j path)
 
 abbrev μ-loop : tie.MeasureT-loop
-μ-loop row n w f path₀ mark queue top₀ i₀ j₀ path top i j = i
+μ-loop row n w f path₀ mark queue from top₀ i₀ j₀ path top i j = i
 
 -- bounds at the places of the loop
 room₁ : (c : tie.After-path-end Inv-loop μ-loop)
@@ -67,7 +67,9 @@ sub-i : tie.Need-sub-i Inv-loop μ-loop
 sub-i c = c .before .before .before .before .pre .some
 
 path-end-requires : tie.Need-path-end-requires Inv-loop μ-loop
-path-end-requires c κs = (c .before .before .before .before .before .before .pre .rising, all-queued _ _ _ (c .before .before .before .before .before .before .pre .met .ordered))
+path-end-requires c κs =
+    let z = c .before .before .before .before .before .before in
+    (z .pre .rising, all-queued _ _ _ (z .pre .met .ordered), z .pre .met .early _ (omega (arith, z .pre .some)))
 
 cast-path : tie.Need-cast-path Inv-loop μ-loop
 cast-path c = omega (arith, first-few c, c .before .before .before .before .before .before .before .pre .rising .few)
