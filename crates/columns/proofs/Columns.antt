@@ -1,16 +1,15 @@
--- A field read column by column is the field that its five bytes are.
+-- A field read from the left, spaces first and then digit by digit, is the field that its five bytes are.
 -- Assumes nothing.
 use mathlib.Core.Path.{_≡_, refl, sym, ap, _∙_}
-use mathlib.Core.Logic.{_⊎_, inl, inr, ⊎-elim}
-use mathlib.Core.Bool.{Bool, true, false}
-use mathlib.Core.List.{List}
-use Prim.Native.Nat.{ℕ, zero, suc, _+_, _-_, _*_, _/_, _%_, _≤_, _<_}
+use mathlib.Core.Bool.{Bool, true, false, cond}
+use mathlib.Core.List.{List, [], _∷_}
+use Prim.Native.Nat.{ℕ, _+_, _-_, _*_, _/_, _%_, _≤_, _<_}
 use native.Mathlib.Omega.{arith}
 use lib.ListN.{getD}
 use lib.Dec.{eqb}
 use borrow.Author.Tests.{eqb-true, eqb-false, eq-eqb, ne-eqb}
 use Rattle.columns.specs.Fields.{column, joined, numberAt, isField, fieldAt}
-use Rattle.columns.specs.Columns.{nextColumn, lastColumn}
+use Rattle.columns.specs.Columns.{withDigit, firstDigit, digitMore}
 use Rattle.columns.proofs.Fields.{column-digit, bytes-of, has-field, field-below}
 
 by-cases : {X : Type 0} (b : Bool) → (b ≡ true → X) → (b ≡ false → X) → X
@@ -27,115 +26,162 @@ column-some : (n : ℕ) → (n ≡ 0 → ⊥) → column n ≡ 48 + n % 10
 unfolding column
 column-some n h = rw (ne-eqb n 0 h)
 
--- a byte that is not the column's
-next-not : (n b : ℕ) → (b ≡ column (joined n b) → ⊥) → nextColumn n b ≡ 100000
-unfolding nextColumn
-next-not n b h = rw (ne-eqb b (column (joined n b)) h)
+digit-not : (n b : ℕ) → (b ≡ 48 + joined n b % 10 → ⊥) → withDigit n b ≡ 100000
+unfolding withDigit
+digit-not n b h = rw (ne-eqb b (48 + joined n b % 10) h)
 
-next-is : (n b : ℕ) → b ≡ column (joined n b) → nextColumn n b ≡ joined n b
-unfolding nextColumn
-next-is n b h = rw (eq-eqb b (column (joined n b)) h)
-
--- the bytes of a column: a space, or a digit where the number is not 0
-column-byte : (m b : ℕ) → b ≡ column m → ((b ≡ 32) × (m ≡ 0)) ⊎ ((b ≡ 48 + m % 10) × (0 < m))
-column-byte zero b e = inl (e ∙ column-none, refl)
-column-byte (suc m) b e = inr (e ∙ column-some (suc m) (λ z. omega arith), omega arith)
+digit-is : (n b : ℕ) → b ≡ 48 + joined n b % 10 → withDigit n b ≡ joined n b
+unfolding withDigit
+digit-is n b h = rw (eq-eqb b (48 + joined n b % 10) h)
 
 -- the cases of the code
-pub space-none : (n b : ℕ) → b ≡ 32 → n ≡ 0 → 0 ≡ nextColumn n b
-space-none n b e z = rw (e, z) (sym (next-is 0 32 (sym column-none)))
+pub digit-below : (n b : ℕ) → b < 48 → 100000 ≡ withDigit n b
+digit-below n b h = sym (digit-not n b (λ e. omega arith))
 
-pub space-some : (n b : ℕ) → b ≡ 32 → (n ≡ 0 → ⊥) → 100000 ≡ nextColumn n b
-space-some n b e z =
-    sym (next-not n b (λ h. ⊎-elim (λ (p : (b ≡ 32) × (joined n b ≡ 0)). z (omega (arith, p .1))) (λ (p : (b ≡ 48 + joined n b % 10) × (0 < joined n b)). omega (arith, p .0)) (column-byte (joined n b) b h)))
+pub digit-above : (n b : ℕ) → 57 < b → 100000 ≡ withDigit n b
+digit-above n b h = sym (digit-not n b (λ e. omega arith))
 
-pub below-digits : (n b : ℕ) → (b ≡ 32 → ⊥) → b < 48 → 100000 ≡ nextColumn n b
-below-digits n b e l =
-    sym (next-not n b (λ h. ⊎-elim (λ (p : (b ≡ 32) × (joined n b ≡ 0)). e (p .0)) (λ (p : (b ≡ 48 + joined n b % 10) × (0 < joined n b)). omega (arith, p .0)) (column-byte (joined n b) b h)))
+pub digit-some : (n b : ℕ) → 48 ≤ b → b ≤ 57 → n * 10 + b - 48 ≡ withDigit n b
+digit-some n b l h = let e : b % 16 ≡ b - 48 = omega arith in sym (digit-is n b (omega arith) ∙ omega arith)
 
-pub above-digits : (n b : ℕ) → 57 < b → 100000 ≡ nextColumn n b
-above-digits n b l =
-    sym (next-not n b (λ h. ⊎-elim (λ (p : (b ≡ 32) × (joined n b ≡ 0)). omega (arith, p .0)) (λ (p : (b ≡ 48 + joined n b % 10) × (0 < joined n b)). omega (arith, p .0)) (column-byte (joined n b) b h)))
+pub digit-most : (n b : ℕ) → withDigit n b ≤ n * 10 + 100000
+digit-most n b = by-cases (eqb b (48 + joined n b % 10)) (λ e. omega (arith, digit-is n b (eqb-true _ _ e))) (λ e. omega (arith, digit-not n b (eqb-false _ _ e)))
 
-digit-joined : (n b : ℕ) → 48 ≤ b → b ≤ 57 → joined n b ≡ n * 10 + (b - 48)
-digit-joined n b l h = let e : b % 16 ≡ b - 48 = omega arith in rw e
+-- no digit, or the digit 0
+pub first-none : (b : ℕ) → ((b ≡ 48 → ⊥) → 100000 ≡ withDigit 0 b) → 100000 ≡ firstDigit b
+unfolding firstDigit
+first-none b h = by-cases (eqb b 48) (λ e. rw e) (λ e. rw e (h (eqb-false _ _ e)))
 
-pub digit-none : (n b : ℕ) → 48 ≤ b → b ≤ 57 → n * 10 + (b - 48) ≡ 0 → 100000 ≡ nextColumn n b
-digit-none n b l h z =
-    let j = digit-joined n b l h in
-    sym (next-not n b (λ e. ⊎-elim (λ (p : (b ≡ 32) × (joined n b ≡ 0)). omega (arith, p .0)) (λ (p : (b ≡ 48 + joined n b % 10) × (0 < joined n b)). omega (arith, p .1)) (column-byte (joined n b) b e)))
+pub first-some : (b : ℕ) → (b ≡ 48 → ⊥) → firstDigit b ≡ withDigit 0 b
+unfolding firstDigit
+first-some b h = rw (ne-eqb b 48 h)
 
-pub digit-some : (n b : ℕ) → 48 ≤ b → b ≤ 57 → (n * 10 + (b - 48) ≡ 0 → ⊥) → n * 10 + (b - 48) ≡ nextColumn n b
-digit-some n b l h z =
-    let j = digit-joined n b l h in
-    sym (next-is n b (let c = column-some (joined n b) (λ e. z (sym j ∙ e)) in omega (arith, c, j)) ∙ j)
+pub more-none : (b : ℕ) → digitMore 100000 b ≡ 100000
+unfolding digitMore
+more-none b = refl
 
--- what a column that was read says
-pub next-says : (n b : ℕ) → n < 10000 → (nextColumn n b ≡ 100000 → ⊥) → (nextColumn n b ≡ joined n b) × (b ≡ column (joined n b)) × (b % 16 < 10)
-next-says n b h z =
-    by-cases (eqb b (column (joined n b)))
-    (λ e. let p = eqb-true _ _ e in (next-is n b p, p, ⊎-elim (λ (q : (b ≡ 32) × (joined n b ≡ 0)). omega (arith, q .0)) (λ (q : (b ≡ 48 + joined n b % 10) × (0 < joined n b)). omega (arith, q .0)) (column-byte (joined n b) b p)))
-    (λ e. absurd (z (next-not n b (eqb-false _ _ e))))
+pub more-some : (n b : ℕ) → (n ≡ 100000 → ⊥) → digitMore n b ≡ withDigit n b
+unfolding digitMore
+more-some n b h = rw (ne-eqb n 100000 h)
 
--- ---- the last column
+-- ---- bytes read one after the other
 
-last-not : (n b : ℕ) → (b ≡ 48 + joined n b % 10 → ⊥) → 100000 ≡ lastColumn n b
-unfolding lastColumn
-last-not n b h = rw (ne-eqb b (48 + joined n b % 10) h)
+-- what was read with more digits, one after the other
+unfoldable pub moreDigits : ℕ → List ℕ → ℕ
+moreDigits n [] = n
+moreDigits n (b ∷ bs) = moreDigits (digitMore n b) bs
 
-pub last-below : (n b : ℕ) → b < 48 → 100000 ≡ lastColumn n b
-last-below n b h = last-not n b (λ e. omega arith)
+-- bytes read as spaces, then a first digit, then more digits; in the last column any digit is right
+unfoldable pub scanned : List ℕ → ℕ
+scanned [] = 100000
+scanned (b ∷ []) = withDigit 0 b
+scanned (b ∷ c ∷ bs) = cond (eqb b 32) (scanned (c ∷ bs)) (moreDigits (firstDigit b) (c ∷ bs))
 
-pub last-above : (n b : ℕ) → 57 < b → 100000 ≡ lastColumn n b
-last-above n b h = last-not n b (λ e. omega arith)
+-- what the bytes behind n say, whatever they are
+abbrev total : ℕ → List ℕ → ℕ
+total n [] = n
+total n (b ∷ bs) = total (joined n b) bs
 
-pub last-digit : (n b : ℕ) → 48 ≤ b → b ≤ 57 → n * 10 + (b - 48) ≡ lastColumn n b
-unfolding lastColumn
-last-digit n b l h = let j = digit-joined n b l h in rw (eq-eqb b (48 + joined n b % 10) (omega arith)) (sym j)
+-- the bytes behind n are the ones that writing gives: in the last column always a digit
+abbrev Right : ℕ → List ℕ → Type 0
+Right n [] = ⊥
+Right n (b ∷ []) = b ≡ 48 + joined n b % 10
+Right n (b ∷ c ∷ bs) = (b ≡ column (joined n b)) × Right (joined n b) (c ∷ bs)
 
--- what the last column says
-pub last-says : (n b : ℕ) → ((b ≡ 48 + joined n b % 10) × (lastColumn n b ≡ joined n b)) ⊎ ((b ≡ 48 + joined n b % 10 → ⊥) × (lastColumn n b ≡ 100000))
-unfolding lastColumn
-last-says n b = by-cases (eqb b (48 + joined n b % 10)) (λ e. inl (eqb-true _ _ e, rw e)) (λ e. inr (eqb-false _ _ e, rw e))
+-- r is what they say where they are right, and else 100,000
+record Reads (n : ℕ) (bs : List ℕ) (r : ℕ) : Type 0 where
+  right : Right n bs → r ≡ total n bs
+  wrong : (Right n bs → ⊥) → r ≡ 100000
 
--- ---- the five columns
+right-byte : (n b c r : ℕ) (bs : List ℕ) → b ≡ column (joined n b) → Reads (joined n b) (c ∷ bs) r → Reads n (b ∷ c ∷ bs) r
+right-byte n b c r bs e k = record { right = λ p. k .right (p .1); wrong = λ z. k .wrong (λ p. z (e, p)) }
+
+wrong-byte : (n b c r : ℕ) (bs : List ℕ) → (b ≡ column (joined n b) → ⊥) → r ≡ 100000 → Reads n (b ∷ c ∷ bs) r
+wrong-byte n b c r bs z e = record { right = λ p. absurd (z (p .0)); wrong = λ _. e }
+
+last-byte : (n b : ℕ) → Reads n (b ∷ []) (withDigit n b)
+last-byte n b = record { right = digit-is n b; wrong = digit-not n b }
+
+digits-none : (bs : List ℕ) → moreDigits 100000 bs ≡ 100000
+unfolding moreDigits
+digits-none [] = refl
+digits-none (b ∷ bs) = rw more-none (digits-none bs)
+
+-- m is what a digit makes of n, and not 0: then come the digits behind it
+digit-read : (n m b c : ℕ) (bs : List ℕ) → 0 < joined n b → m ≡ withDigit n b → (b % 16 < 10 → Reads (joined n b) (c ∷ bs) (moreDigits (joined n b) (c ∷ bs)))
+    → Reads n (b ∷ c ∷ bs) (moreDigits m (c ∷ bs))
+digit-read n m b c bs p e k =
+    let s = column-some (joined n b) (λ z. omega arith) in
+    by-cases (eqb b (48 + joined n b % 10))
+    (λ t. let d = eqb-true _ _ t in right-byte n b c _ bs (d ∙ sym s) (rw (e, digit-is n b d) (k (omega arith))))
+    (λ t. let z = eqb-false _ _ t in wrong-byte n b c _ bs (λ q. z (q ∙ s)) (rw (e, digit-not n b z) (digits-none (c ∷ bs))))
+
+-- what the number so far is below where these bytes follow
+abbrev room : List ℕ → ℕ
+room [] = 100000
+room (b ∷ bs) = room bs / 10
+
+room-most : (bs : List ℕ) → room bs ≤ 100000
+room-most [] = omega arith
+room-most (b ∷ bs) = omega (arith, room-most bs)
+
+digits-read : (n b : ℕ) (bs : List ℕ) → 0 < n → n < room (b ∷ bs) → Reads n (b ∷ bs) (moreDigits n (b ∷ bs))
+unfolding moreDigits
+digits-read n b [] p h = rw (more-some n b (λ e. omega arith)) (last-byte n b)
+digits-read n b (c ∷ bs) p h = digit-read n (digitMore n b) b c bs (omega arith) (more-some n b (λ e. omega (arith, room-most bs))) (λ d. digits-read (joined n b) c bs (omega arith) (omega arith))
+
+first-read : (b c : ℕ) (bs : List ℕ) → (b ≡ 32 → ⊥) → 0 < room (b ∷ c ∷ bs) → Reads 0 (b ∷ c ∷ bs) (moreDigits (firstDigit b) (c ∷ bs))
+first-read b c bs z h =
+    by-cases (eqb (joined 0 b) 0)
+    (λ t. let e : joined 0 b ≡ 0 = eqb-true _ _ t in
+    wrong-byte 0 b c _ bs (λ q. z (q ∙ rw (e, column-none))) (rw (← first-none b (λ y. sym (digit-not 0 b (λ d. y (omega arith))))) (digits-none (c ∷ bs))))
+    (λ t. let e : joined 0 b ≡ 0 → ⊥ = eqb-false _ _ t in
+    digit-read 0 (firstDigit b) b c bs (omega arith) (first-some b (λ y. e (rw y))) (λ d. digits-read (joined 0 b) c bs (omega arith) (omega arith)))
+
+pub space-scanned : (b c : ℕ) (bs : List ℕ) → b ≡ 32 → scanned (b ∷ c ∷ bs) ≡ scanned (c ∷ bs)
+unfolding scanned
+space-scanned b c bs e = rw (eq-eqb b 32 e)
+
+pub digit-scanned : (b c : ℕ) (bs : List ℕ) → (b ≡ 32 → ⊥) → scanned (b ∷ c ∷ bs) ≡ moreDigits (firstDigit b) (c ∷ bs)
+unfolding scanned
+digit-scanned b c bs z = rw (ne-eqb b 32 z)
+
+scan-read : (b : ℕ) (bs : List ℕ) → 0 < room (b ∷ bs) → Reads 0 (b ∷ bs) (scanned (b ∷ bs))
+scan-read b [] h = unfold scanned in last-byte 0 b
+scan-read b (c ∷ bs) h =
+    by-cases (eqb b 32)
+    (λ t. let e = eqb-true b 32 t in rw (space-scanned b c bs e, e) (right-byte 0 32 c _ bs (sym column-none) (scan-read c bs (omega arith))))
+    (λ t. let z = eqb-false b 32 t in rw (digit-scanned b c bs z) (first-read b c bs z h))
+
+-- ---- the five bytes of a field
 
 module _ (s : List ℕ) (at : ℕ) where
+  abbrev pub bytes : List ℕ
+  bytes = getD s at 0 ∷ getD s (at + 1) 0 ∷ getD s (at + 2) 0 ∷ getD s (at + 3) 0 ∷ getD s (at + 4) 0 ∷ []
+
   -- the numbers that the first columns say, one after the other
-  abbrev pub says₁ : ℕ
+  abbrev says₁ : ℕ
   says₁ = joined 0 (getD s at 0)
 
-  abbrev pub says₂ : ℕ
+  abbrev says₂ : ℕ
   says₂ = joined says₁ (getD s (at + 1) 0)
 
-  abbrev pub says₃ : ℕ
+  abbrev says₃ : ℕ
   says₃ = joined says₂ (getD s (at + 2) 0)
 
-  abbrev pub says₄ : ℕ
+  abbrev says₄ : ℕ
   says₄ = joined says₃ (getD s (at + 3) 0)
 
-  abbrev pub says₅ : ℕ
+  abbrev says₅ : ℕ
   says₅ = joined says₄ (getD s (at + 4) 0)
-
-  -- each byte is the one that writing gives in its column
-  pub record Read : Type 0 where
-    pub c₁ : getD s at 0 ≡ column says₁
-    pub c₂ : getD s (at + 1) 0 ≡ column says₂
-    pub c₃ : getD s (at + 2) 0 ≡ column says₃
-    pub c₄ : getD s (at + 3) 0 ≡ column says₄
-    pub c₅ : getD s (at + 4) 0 ≡ 48 + says₅ % 10
-
-  number-says : numberAt s at ≡ says₅
-  unfolding numberAt
-  number-says = refl
 
   -- a byte's digit, by what it is
   digit-of : (b m : ℕ) → b ≡ column m → b % 16 ≡ m % 10
   digit-of b m e = rw e (column-digit m)
 
-  pub field-columns : isField s at ≡ true → Read
+  field-right : isField s at ≡ true → Right 0 bytes
   unfolding isField numberAt
-  field-columns e =
+  field-right e =
       let n = numberAt s at in
       let b = bytes-of s at n e in
       let small = field-below s at (unfold isField in e) in
@@ -147,54 +193,35 @@ module _ (s : List ℕ) (at : ℕ) where
       let e₂ : says₂ ≡ n / 10 / 10 / 10 = rw e₁ (omega arith) in
       let e₃ : says₃ ≡ n / 10 / 10 = rw e₂ (omega arith) in
       let e₄ : says₄ ≡ n / 10 = rw e₃ (omega arith) in
-      record { c₁ = b .b₀ ∙ ap column (sym e₁); c₂ = b .b₁ ∙ ap column (sym e₂); c₃ = b .b₂ ∙ ap column (sym e₃); c₄ = b .b₃ ∙ ap column (sym e₄); c₅ = b .b₄ }
+      (b .b₀ ∙ ap column (sym e₁), (b .b₁ ∙ ap column (sym e₂), (b .b₂ ∙ ap column (sym e₃), (b .b₃ ∙ ap column (sym e₄), b .b₄))))
 
-  pub columns-field : Read → isField s at ≡ true
+  right-field : Right 0 bytes → isField s at ≡ true
   unfolding isField numberAt
-  columns-field r =
-      let d₂ = digit-of (getD s (at + 1) 0) says₂ (r .c₂) in
-      let d₃ = digit-of (getD s (at + 2) 0) says₃ (r .c₃) in
-      let d₄ = digit-of (getD s (at + 3) 0) says₄ (r .c₄) in
-      let d₅ : getD s (at + 4) 0 % 16 ≡ says₅ % 10 = rw (r .c₅) (omega arith) in
+  right-field (c₁, (c₂, (c₃, (c₄, c₅)))) =
+      let d₂ = digit-of (getD s (at + 1) 0) says₂ c₂ in
+      let d₃ = digit-of (getD s (at + 2) 0) says₃ c₃ in
+      let d₄ = digit-of (getD s (at + 3) 0) says₄ c₄ in
+      let d₅ : getD s (at + 4) 0 % 16 ≡ says₅ % 10 = rw c₅ (omega arith) in
       let q₄ : says₅ / 10 ≡ says₄ = omega arith in
       let q₃ : says₄ / 10 ≡ says₃ = omega arith in
       let q₂ : says₃ / 10 ≡ says₂ = omega arith in
       let q₁ : says₂ / 10 ≡ says₁ = omega arith in
       has-field s at says₅ (record {
-        b₀ = r .c₁ ∙ ap column (sym (rw (q₄, q₃, q₂) q₁));
-        b₁ = r .c₂ ∙ ap column (sym (rw (q₄, q₃) q₂));
-        b₂ = r .c₃ ∙ ap column (sym (rw q₄ q₃));
-        b₃ = r .c₄ ∙ ap column (sym q₄);
-        b₄ = r .c₅;
+        b₀ = c₁ ∙ ap column (sym (rw (q₄, q₃, q₂) q₁));
+        b₁ = c₂ ∙ ap column (sym (rw (q₄, q₃) q₂));
+        b₂ = c₃ ∙ ap column (sym (rw q₄ q₃));
+        b₃ = c₄ ∙ ap column (sym q₄);
+        b₄ = c₅;
       })
 
-  -- what is read where some column is not right
-  pub no-field : (Read → ⊥) → 100000 ≡ fieldAt s at
-  unfolding fieldAt
-  no-field h = by-cases (isField s at) (λ e. absurd (h (field-columns e))) (λ e. rw e)
-
-  pub a-field : Read → says₅ ≡ fieldAt s at
-  unfolding fieldAt
-  a-field r = rw (columns-field r) (sym number-says)
-
--- what the code knows after so many columns: the number so far, below a power of 10, and that their bytes are right
-pub record Upto (says byte m most : ℕ) : Type 0 where
-  pub number : m ≡ says
-  pub right : byte ≡ column says
-  pub small : says < most
-
-pub upto-first : (b m : ℕ) → m ≡ nextColumn 0 b → (m ≡ 100000 → ⊥) → Upto (joined 0 b) b m 10
-upto-first b m e z = let p = next-says 0 b (omega arith) (λ y. z (e ∙ y)) in record { number = e ∙ p .0; right = p .1; small = omega (arith, p .2) }
-
-pub upto-next : (says byte n most b m : ℕ) → most ≤ 1000 → Upto says byte n most → m ≡ nextColumn n b → (m ≡ 100000 → ⊥) → Upto (joined says b) b m (10 * most)
-upto-next says byte n most b m few u e z =
-    let f : m ≡ nextColumn says b = rw (← u .number) e in
-    let p = next-says says b (omega (arith, u .small)) (λ y. z (f ∙ y)) in
-    record { number = f ∙ p .0; right = p .1; small = omega (arith, p .2, u .small) }
-
--- a column that is not right
-pub not-right : (n b m : ℕ) → n < 10000 → m ≡ nextColumn n b → m ≡ 100000 → b ≡ column (joined n b) → ⊥
-not-right n b m h e z r = omega (arith, next-is n b r, ap (λ x. x % 16) r ∙ column-digit (joined n b))
+  -- what the bytes are read as is the number of the field, or of no field
+  pub field-scanned : scanned bytes ≡ fieldAt s at
+  unfolding fieldAt numberAt
+  field-scanned =
+      let k = scan-read (getD s at 0) (getD s (at + 1) 0 ∷ getD s (at + 2) 0 ∷ getD s (at + 3) 0 ∷ getD s (at + 4) 0 ∷ []) (omega arith) in
+      by-cases (isField s at)
+      (λ e. rw e (k .right (field-right e)))
+      (λ e. rw e (k .wrong (λ p. let z : _≡_ {A = ℕ} 0 1 = cc (right-field p) in omega arith)))
 
 -- ---- the number of a field, and of no field
 

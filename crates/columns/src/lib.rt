@@ -4,7 +4,7 @@ ghost use Prim.Native.Nat.{_+_, _*_, _≤_, _<_};
 ghost use lib.ListN.{length};
 ghost use lib.Seq.{sets};
 ghost use Rattle.columns.specs.Fields.{column, field, joined, numberAt, fieldAt};
-ghost use Rattle.columns.specs.Columns.{nextColumn, lastColumn};
+ghost use Rattle.columns.specs.Columns.{withDigit, firstDigit, digitMore};
 ghost use Rattle.columns.specs.Lines.{line, width, laidOut, over};
 
 // The byte before a number's first digit, the digit 0, and the end of a line.
@@ -43,28 +43,10 @@ pub fn number_at(s: &[u8], at: usize) -> u32
     )
 }
 
-// The number so far with one column more, if the byte is the one that writing gives there.
-fn next_column(n: u32, b: u8) -> u32
-    requires { ⌜ n < 10000 ⌝ }
-    ensures { λ r. ⌜ r ≡ nextColumn n b ⌝ }
-{
-    if b == SPACE {
-        return if n == 0 { 0 } else { NO_FIELD };
-    }
-    if b < ZERO {
-        return NO_FIELD;
-    }
-    if ZERO + 9 < b {
-        return NO_FIELD;
-    }
-    let more = n * 10 + (b - ZERO) as u32;
-    if more == 0 { NO_FIELD } else { more }
-}
-
-// The whole number, if the last byte is a digit.
-fn last_column(n: u32, b: u8) -> u32
-    requires { ⌜ n < 10000 ⌝ }
-    ensures { λ r. ⌜ r ≡ lastColumn n b ⌝ }
+// The number with one digit more, or NO_FIELD where the byte is no digit. The bound keeps the sum within 32 bits.
+fn with_digit(n: u32, b: u8) -> u32
+    requires { ⌜ n < 400000000 ⌝ }
+    ensures { λ r. ⌜ r ≡ withDigit n b ⌝ }
 {
     if b < ZERO {
         return NO_FIELD;
@@ -72,31 +54,60 @@ fn last_column(n: u32, b: u8) -> u32
     if ZERO + 9 < b {
         return NO_FIELD;
     }
-    n * 10 + (b - ZERO) as u32
+    n * 10 + b as u32 - 48
 }
 
-// The number of the field from a place on, or NO_FIELD where no field stands.
+// The first digit of a number of several digits, which is not 0, or NO_FIELD where the byte is no such digit.
+fn first_digit(b: u8) -> u32
+    ensures { λ r. ⌜ (r ≡ firstDigit b) × (r ≤ 100000) ⌝ }
+{
+    if b <= ZERO {
+        return NO_FIELD;
+    }
+    if ZERO + 9 < b {
+        return NO_FIELD;
+    }
+    b as u32 - 48
+}
+
+// What was read with one digit more, where NO_FIELD stays NO_FIELD. The last bound serves the digits behind it.
+fn digit_more(n: u32, b: u8) -> u32
+    requires { ⌜ n < 400000000 ⌝ }
+    ensures { λ r. ⌜ (r ≡ digitMore n b) × (r ≤ n * 10 + 100000) ⌝ }
+{
+    if n == NO_FIELD {
+        return NO_FIELD;
+    }
+    with_digit(n, b)
+}
+
+// The number of the field from a place on, or NO_FIELD where no field stands. Each return is for one column of the first digit.
 pub fn field_at(s: &[u8], at: usize) -> u32
     requires { ⌜ at + 5 ≤ length (now s) ⌝ }
     ensures { λ r. ⌜ r ≡ fieldAt (now (s .entry)) at ⌝ }
 {
-    let a = next_column(0, s[at]);
-    if a == NO_FIELD {
-        return NO_FIELD;
+    if s[at] != SPACE {
+        return digit_more(
+            digit_more(
+                digit_more(digit_more(first_digit(s[at]), s[at + 1]), s[at + 2]),
+                s[at + 3],
+            ),
+            s[at + 4],
+        );
     }
-    let b = next_column(a, s[at + 1]);
-    if b == NO_FIELD {
-        return NO_FIELD;
+    if s[at + 1] != SPACE {
+        return digit_more(
+            digit_more(digit_more(first_digit(s[at + 1]), s[at + 2]), s[at + 3]),
+            s[at + 4],
+        );
     }
-    let c = next_column(b, s[at + 2]);
-    if c == NO_FIELD {
-        return NO_FIELD;
+    if s[at + 2] != SPACE {
+        return digit_more(digit_more(first_digit(s[at + 2]), s[at + 3]), s[at + 4]);
     }
-    let d = next_column(c, s[at + 3]);
-    if d == NO_FIELD {
-        return NO_FIELD;
+    if s[at + 3] != SPACE {
+        return digit_more(first_digit(s[at + 3]), s[at + 4]);
     }
-    last_column(d, s[at + 4])
+    with_digit(0, s[at + 4])
 }
 
 // From a place on stand k fields and byte 10.

@@ -1,134 +1,261 @@
--- `columns::field_at` meets its contract: column by column, from the left, each byte is held against the number so far.
+-- `columns::field_at` meets its contract: it passes over spaces, and then reads digits from the first on.
 -- Assumes nothing.
-use mathlib.Core.Path.{_≡_, _∙_}
-use mathlib.Core.Logic.{_⊎_, ⊎-elim}
-use Prim.Native.Nat.{ℕ, _+_, _%_}
-use native.Mathlib.Omega.{arith}
-use lib.ListN.{getD}
+use mathlib.Core.Path.{_≡_, sym, _∙_}
+use Prim.Native.Nat.{ℕ}
+use lib.ListN.{drop}
 use denote.Ref.{now}
 use borrow.Author.Needs.{needs}
-use Rattle.columns.specs.Fields.{joined}
-use Rattle.columns.specs.Columns.{lastColumn}
-use Rattle.columns.proofs.Columns.{says₁, says₂, says₃, says₄, no-field, a-field, Upto, upto-first, upto-next, not-right, last-says}
+use Rattle.columns.specs.Fields.{fieldAt}
+use Rattle.columns.proofs.Columns.{moreDigits, scanned, space-scanned, digit-scanned, bytes, field-scanned}
 use Rattle.columns.proofs.field_at.Statement.{statement}
 use Rattle.columns.proofs.field_at.Tie as tie
 
--- what is known once so many columns have been read
-abbrev Known₁ : tie.Start → ℕ → Type 0
-Known₁ c m = Upto (says₁ (now (c .args .s)) (c .args .at)) (getD (now (c .args .s)) (c .args .at) 0) m 10
+-- past k spaces: the field is what the other bytes are read as
+abbrev Passed : ℕ → tie.Start → Type 0
+Passed k c = let s = now (c .args .s) in scanned (drop k (bytes s (c .args .at))) ≡ fieldAt s (c .args .at)
 
-abbrev Known₂ : tie.Start → ℕ → Type 0
-Known₂ c m = Upto (says₂ (now (c .args .s)) (c .args .at)) (getD (now (c .args .s)) (c .args .at + 1) 0) m 100
+passed₁ : (c : tie.Else1) → Passed 1 (c .before .before .before)
+passed₁ c = sym (space-scanned _ _ _ (c .if1 .left)) ∙ field-scanned _ _
 
-abbrev Known₃ : tie.Start → ℕ → Type 0
-Known₃ c m = Upto (says₃ (now (c .args .s)) (c .args .at)) (getD (now (c .args .s)) (c .args .at + 2) 0) m 1000
+passed₂ : (c : tie.Else2) → Passed 2 (c .before .before .before .before .before)
+passed₂ c = sym (space-scanned _ _ _ (c .if2 .left)) ∙ passed₁ (c .before .before)
 
-abbrev Known₄ : tie.Start → ℕ → Type 0
-Known₄ c m = Upto (says₄ (now (c .args .s)) (c .args .at)) (getD (now (c .args .s)) (c .args .at + 3) 0) m 10000
+passed₃ : (c : tie.Else3) → Passed 3 (c .before .before .before .before .before .before .before)
+passed₃ c = sym (space-scanned _ _ _ (c .if3 .left)) ∙ passed₂ (c .before .before)
 
-first : (c : tie.Else1) → Known₁ (c .before .before .before .before) (c .before .next-column .result)
-first c = upto-first _ _ (c .before .next-column .ensures) (c .if1 .left)
+passed₄ : (c : tie.Else4) → Passed 4 (c .before .before .before .before .before .before .before .before .before)
+passed₄ c = sym (space-scanned _ _ _ (c .if4 .left)) ∙ passed₃ (c .before .before)
 
-second : (c : tie.Else2) → Known₂ (c .before .before .before .before .before .before .before) (c .before .next-column2 .result)
-second c = upto-next _ _ _ 10 _ _ (omega arith) (first (c .before .before .before)) (c .before .next-column2 .ensures) (c .if2 .left)
+shared-slice-read-if1 : tie.Need-shared-slice-read-if1
+shared-slice-read-if1 c = search needs
 
-third : (c : tie.Else3) → Known₃ (c .before .before .before .before .before .before .before .before .before .before) (c .before .next-column3 .result)
-third c = upto-next _ _ _ 100 _ _ (omega arith) (second (c .before .before .before)) (c .before .next-column3 .ensures) (c .if3 .left)
+shared-slice-read-first-digit : tie.Need-shared-slice-read-first-digit
+shared-slice-read-first-digit c = search needs
 
-fourth : (c : tie.Else4) → Known₄ (c .before .before .before .before .before .before .before .before .before .before .before .before .before) (c .before .next-column4 .result)
-fourth c = upto-next _ _ _ 1000 _ _ (omega arith) (third (c .before .before .before)) (c .before .next-column4 .ensures) (c .if4 .left)
+first-digit-requires : tie.Need-first-digit-requires
+first-digit-requires c κs = search needs
 
-shared-slice-read-next-column : tie.Need-shared-slice-read-next-column
-shared-slice-read-next-column c = search needs
+add-digit-more : tie.Need-add-digit-more
+add-digit-more c = search needs
 
-next-column-requires : tie.Need-next-column-requires
-next-column-requires c κs = search needs
+shared-slice-read-digit-more : tie.Need-shared-slice-read-digit-more
+shared-slice-read-digit-more c = search needs
+
+digit-more-requires : tie.Need-digit-more-requires
+digit-more-requires c κs = search needs
+
+add-digit-more-2 : tie.Need-add-digit-more-2
+add-digit-more-2 c = search needs
+
+shared-slice-read-digit-more-2 : tie.Need-shared-slice-read-digit-more-2
+shared-slice-read-digit-more-2 c = search needs
+
+digit-more-requires-2 : tie.Need-digit-more-requires-2
+digit-more-requires-2 c κs = search needs
+
+add-digit-more-3 : tie.Need-add-digit-more-3
+add-digit-more-3 c = search needs
+
+shared-slice-read-digit-more-3 : tie.Need-shared-slice-read-digit-more-3
+shared-slice-read-digit-more-3 c = search needs
+
+digit-more-requires-3 : tie.Need-digit-more-requires-3
+digit-more-requires-3 c κs = search needs
+
+add-digit-more-4 : tie.Need-add-digit-more-4
+add-digit-more-4 c = search needs
+
+shared-slice-read-digit-more-4 : tie.Need-shared-slice-read-digit-more-4
+shared-slice-read-digit-more-4 c = search needs
+
+digit-more-requires-4 : tie.Need-digit-more-requires-4
+digit-more-requires-4 c κs = search needs
 
 returns : tie.Need-returns
-returns c = let s = c .before .before .before .before in no-field (now (s .args .s)) (s .args .at) (λ r. not-right 0 _ _ (omega arith) (c .before .next-column .ensures) (c .if1 .taken) (r .c₁))
+unfolding moreDigits
+returns c = let t = c .before .before .before .before .before .before .before .before .before .before in cc (digit-scanned _ _ _ (t .if1 .taken), field-scanned _ _)
 
-add-next-column : tie.Need-add-next-column
-add-next-column c = search needs
+add-if2 : tie.Need-add-if2
+add-if2 c = search needs
 
-shared-slice-read-next-column-2 : tie.Need-shared-slice-read-next-column-2
-shared-slice-read-next-column-2 c = search needs
+shared-slice-read-if2 : tie.Need-shared-slice-read-if2
+shared-slice-read-if2 c = search needs
 
-next-column-requires-2 : tie.Need-next-column-requires-2
-next-column-requires-2 c κs = let u = first (c .before) in omega (arith, u .number, u .small)
+add-first-digit : tie.Need-add-first-digit
+add-first-digit c = search needs
+
+shared-slice-read-first-digit-2 : tie.Need-shared-slice-read-first-digit-2
+shared-slice-read-first-digit-2 c = search needs
+
+first-digit-requires-2 : tie.Need-first-digit-requires-2
+first-digit-requires-2 c κs = search needs
+
+add-digit-more-5 : tie.Need-add-digit-more-5
+add-digit-more-5 c = search needs
+
+shared-slice-read-digit-more-5 : tie.Need-shared-slice-read-digit-more-5
+shared-slice-read-digit-more-5 c = search needs
+
+digit-more-requires-5 : tie.Need-digit-more-requires-5
+digit-more-requires-5 c κs = search needs
+
+add-digit-more-6 : tie.Need-add-digit-more-6
+add-digit-more-6 c = search needs
+
+shared-slice-read-digit-more-6 : tie.Need-shared-slice-read-digit-more-6
+shared-slice-read-digit-more-6 c = search needs
+
+digit-more-requires-6 : tie.Need-digit-more-requires-6
+digit-more-requires-6 c κs = search needs
+
+add-digit-more-7 : tie.Need-add-digit-more-7
+add-digit-more-7 c = search needs
+
+shared-slice-read-digit-more-7 : tie.Need-shared-slice-read-digit-more-7
+shared-slice-read-digit-more-7 c = search needs
+
+digit-more-requires-7 : tie.Need-digit-more-requires-7
+digit-more-requires-7 c κs = search needs
 
 returns-2 : tie.Need-returns-2
-returns-2 c = let s = c .before .before .before .before .before .before .before in let u = first (c .before .before .before) in no-field (now (s .args .s)) (s .args .at) (λ r. not-right (says₁ (now (s .args .s)) (s .args .at)) _ _ (omega (arith, u .small)) (rw (← u .number) (c .before .next-column2 .ensures)) (c .if2 .taken) (r .c₂))
+unfolding moreDigits
+returns-2 c = let t = c .before .before .before .before .before .before .before .before in cc (digit-scanned _ _ _ (t .if2 .taken), passed₁ (t .before .before))
 
-add-next-column-2 : tie.Need-add-next-column-2
-add-next-column-2 c = search needs
+add-if3 : tie.Need-add-if3
+add-if3 c = search needs
 
-shared-slice-read-next-column-3 : tie.Need-shared-slice-read-next-column-3
-shared-slice-read-next-column-3 c = search needs
+shared-slice-read-if3 : tie.Need-shared-slice-read-if3
+shared-slice-read-if3 c = search needs
 
-next-column-requires-3 : tie.Need-next-column-requires-3
-next-column-requires-3 c κs = let u = second (c .before) in omega (arith, u .number, u .small)
+add-first-digit-2 : tie.Need-add-first-digit-2
+add-first-digit-2 c = search needs
+
+shared-slice-read-first-digit-3 : tie.Need-shared-slice-read-first-digit-3
+shared-slice-read-first-digit-3 c = search needs
+
+first-digit-requires-3 : tie.Need-first-digit-requires-3
+first-digit-requires-3 c κs = search needs
+
+add-digit-more-8 : tie.Need-add-digit-more-8
+add-digit-more-8 c = search needs
+
+shared-slice-read-digit-more-8 : tie.Need-shared-slice-read-digit-more-8
+shared-slice-read-digit-more-8 c = search needs
+
+digit-more-requires-8 : tie.Need-digit-more-requires-8
+digit-more-requires-8 c κs = search needs
+
+add-digit-more-9 : tie.Need-add-digit-more-9
+add-digit-more-9 c = search needs
+
+shared-slice-read-digit-more-9 : tie.Need-shared-slice-read-digit-more-9
+shared-slice-read-digit-more-9 c = search needs
+
+digit-more-requires-9 : tie.Need-digit-more-requires-9
+digit-more-requires-9 c κs = search needs
 
 returns-3 : tie.Need-returns-3
-returns-3 c = let s = c .before .before .before .before .before .before .before .before .before .before in let u = second (c .before .before .before) in no-field (now (s .args .s)) (s .args .at) (λ r. not-right (says₂ (now (s .args .s)) (s .args .at)) _ _ (omega (arith, u .small)) (rw (← u .number) (c .before .next-column3 .ensures)) (c .if3 .taken) (r .c₃))
+unfolding moreDigits
+returns-3 c = let t = c .before .before .before .before .before .before in cc (digit-scanned _ _ _ (t .if3 .taken), passed₂ (t .before .before))
 
-add-next-column-3 : tie.Need-add-next-column-3
-add-next-column-3 c = search needs
+add-if4 : tie.Need-add-if4
+add-if4 c = search needs
 
-shared-slice-read-next-column-4 : tie.Need-shared-slice-read-next-column-4
-shared-slice-read-next-column-4 c = search needs
+shared-slice-read-if4 : tie.Need-shared-slice-read-if4
+shared-slice-read-if4 c = search needs
 
-next-column-requires-4 : tie.Need-next-column-requires-4
-next-column-requires-4 c κs = let u = third (c .before) in omega (arith, u .number, u .small)
+add-first-digit-3 : tie.Need-add-first-digit-3
+add-first-digit-3 c = search needs
+
+shared-slice-read-first-digit-4 : tie.Need-shared-slice-read-first-digit-4
+shared-slice-read-first-digit-4 c = search needs
+
+first-digit-requires-4 : tie.Need-first-digit-requires-4
+first-digit-requires-4 c κs = search needs
+
+add-digit-more-10 : tie.Need-add-digit-more-10
+add-digit-more-10 c = search needs
+
+shared-slice-read-digit-more-10 : tie.Need-shared-slice-read-digit-more-10
+shared-slice-read-digit-more-10 c = search needs
+
+digit-more-requires-10 : tie.Need-digit-more-requires-10
+digit-more-requires-10 c κs = search needs
 
 returns-4 : tie.Need-returns-4
-returns-4 c = let s = c .before .before .before .before .before .before .before .before .before .before .before .before .before in let u = third (c .before .before .before) in no-field (now (s .args .s)) (s .args .at) (λ r. not-right (says₃ (now (s .args .s)) (s .args .at)) _ _ (omega (arith, u .small)) (rw (← u .number) (c .before .next-column4 .ensures)) (c .if4 .taken) (r .c₄))
+unfolding moreDigits
+returns-4 c = let t = c .before .before .before .before in cc (digit-scanned _ _ _ (t .if4 .taken), passed₃ (t .before .before))
 
-add-last-column : tie.Need-add-last-column
-add-last-column c = search needs
+add-with-digit : tie.Need-add-with-digit
+add-with-digit c = search needs
 
-shared-slice-read-last-column : tie.Need-shared-slice-read-last-column
-shared-slice-read-last-column c = search needs
+shared-slice-read-with-digit : tie.Need-shared-slice-read-with-digit
+shared-slice-read-with-digit c = search needs
 
-last-column-requires : tie.Need-last-column-requires
-last-column-requires c κs = let u = fourth (c .before) in omega (arith, u .number, u .small)
+with-digit-requires : tie.Need-with-digit-requires
+with-digit-requires c κs = search needs
 
 returns-5 : tie.Need-returns-5
-returns-5 c =
-    let s = c .before .before .before .before .before .before .before .before .before .before .before .before .before .before .before in
-    let e = c .before .before in
-    let u₄ = fourth e in
-    let u₃ = third (e .before .before .before) in
-    let u₂ = second (e .before .before .before .before .before .before) in
-    let u₁ = first (e .before .before .before .before .before .before .before .before .before) in
-    let n = says₄ (now (s .args .s)) (s .args .at) in
-    let b = getD (now (s .args .s)) (s .args .at + 4) 0 in
-    let got : c .last-column .result ≡ lastColumn n b = rw (← u₄ .number) (c .last-column .ensures) in
-    ⊎-elim
-    (λ (p : (b ≡ 48 + joined n b % 10) × (lastColumn n b ≡ joined n b)).
-    got ∙ p .1 ∙ a-field (now (s .args .s)) (s .args .at) (record { c₁ = u₁ .right; c₂ = u₂ .right; c₃ = u₃ .right; c₄ = u₄ .right; c₅ = p .0 }))
-    (λ (p : (b ≡ 48 + joined n b % 10 → ⊥) × (lastColumn n b ≡ 100000)). got ∙ p .1 ∙ no-field (now (s .args .s)) (s .args .at) (λ r. p .0 (r .c₅)))
-    (last-says n b)
+unfolding scanned
+returns-5 c = c .with-digit .ensures ∙ passed₄ (c .before .before)
 
 pub field-at-spec : {M : Type 1} → statement M
 field-at-spec =
     tie.close
     (tie.spec
-    shared-slice-read-next-column
-    next-column-requires
+    shared-slice-read-if1
+    shared-slice-read-first-digit
+    first-digit-requires
+    add-digit-more
+    shared-slice-read-digit-more
+    digit-more-requires
+    add-digit-more-2
+    shared-slice-read-digit-more-2
+    digit-more-requires-2
+    add-digit-more-3
+    shared-slice-read-digit-more-3
+    digit-more-requires-3
+    add-digit-more-4
+    shared-slice-read-digit-more-4
+    digit-more-requires-4
     returns
-    add-next-column
-    shared-slice-read-next-column-2
-    next-column-requires-2
+    add-if2
+    shared-slice-read-if2
+    add-first-digit
+    shared-slice-read-first-digit-2
+    first-digit-requires-2
+    add-digit-more-5
+    shared-slice-read-digit-more-5
+    digit-more-requires-5
+    add-digit-more-6
+    shared-slice-read-digit-more-6
+    digit-more-requires-6
+    add-digit-more-7
+    shared-slice-read-digit-more-7
+    digit-more-requires-7
     returns-2
-    add-next-column-2
-    shared-slice-read-next-column-3
-    next-column-requires-3
+    add-if3
+    shared-slice-read-if3
+    add-first-digit-2
+    shared-slice-read-first-digit-3
+    first-digit-requires-3
+    add-digit-more-8
+    shared-slice-read-digit-more-8
+    digit-more-requires-8
+    add-digit-more-9
+    shared-slice-read-digit-more-9
+    digit-more-requires-9
     returns-3
-    add-next-column-3
-    shared-slice-read-next-column-4
-    next-column-requires-4
+    add-if4
+    shared-slice-read-if4
+    add-first-digit-3
+    shared-slice-read-first-digit-4
+    first-digit-requires-4
+    add-digit-more-10
+    shared-slice-read-digit-more-10
+    digit-more-requires-10
     returns-4
-    add-last-column
-    shared-slice-read-last-column
-    last-column-requires
+    add-with-digit
+    shared-slice-read-with-digit
+    with-digit-requires
     returns-5)
