@@ -2,7 +2,7 @@
 -- Assumes nothing.
 use mathlib.Core.Path.{_≡_, refl, sym, ap, _∙_}
 use mathlib.Core.Bool.{Bool, true, false, cond, _&&_}
-use mathlib.Core.List.{List, _++_}
+use mathlib.Core.List.{List, [], _∷_, _++_}
 use Prim.Native.Nat.{ℕ, suc, _+_, _*_, _/_, _%_, _≤_, _<_}
 use native.Mathlib.Omega.{arith}
 use native.Mathlib.Nat.{add-zero}
@@ -26,6 +26,14 @@ column-case n false e = omega arith
 pub column-digit : (n : ℕ) → column n % 16 ≡ n % 10
 unfolding column
 column-digit n = column-case n (eqb n 0) refl
+
+-- the field of one digit
+pub field-digit : (n : ℕ) → n < 10 → field n ≡ 32 ∷ 32 ∷ 32 ∷ 32 ∷ (48 + n) ∷ []
+unfolding field column
+field-digit n h =
+    let q : n / 10 ≡ 0 = omega arith in
+    let r : n % 10 ≡ n = omega arith in
+    rw (q, r)
 
 -- the digits of n, joined
 digits : ℕ → ℕ

@@ -1,27 +1,34 @@
 // Five-column fields and lines of fields (document 01, "Table layout"). A line of k fields has 5 k + 1 bytes.
 ghost use mathlib.Core.Path.{_≡_};
-ghost use Prim.Native.Nat.{_+_, _*_, _≤_, _<_};
+ghost use Prim.Native.Nat.{_+_, _*_, _/_, _≤_, _<_};
 ghost use lib.ListN.{length};
 ghost use lib.Seq.{sets};
 ghost use Rattle.columns.specs.Fields.{column, field, joined, numberAt, fieldAt};
 ghost use Rattle.columns.specs.Columns.{withDigit, firstDigit, digitMore};
 ghost use Rattle.columns.specs.Lines.{line, width, laidOut, over};
 
-// The byte before a number's first digit, the digit 0, and the end of a line.
+// The byte before a number's first digit, the digits 0 and 9, and the end of a line.
 const SPACE: u8 = 32;
 
 const ZERO: u8 = 48;
+
+const NINE: u8 = 57;
 
 const LINE_END: u8 = 10;
 
 // What stands for a number where five bytes are no field: no field has it.
 pub const NO_FIELD: u32 = 100000;
 
-// The byte in a column, where n is what the number has from that column leftwards.
-fn column_byte(n: u32) -> u8
+// The byte in a column, where n is what the number has from that column leftwards, and left from the next.
+fn column_byte(n: u32, left: u32) -> u8
+    requires { ⌜ left ≡ n / 10 ⌝ }
     ensures { λ r. ⌜ r ≡ column n ⌝ }
 {
-    if n == 0 { SPACE } else { ZERO + (n % 10) as u8 }
+    if n == 0 {
+        SPACE
+    } else {
+        ZERO + (n - 10 * left) as u8
+    }
 }
 
 // The number with one column more.
@@ -51,7 +58,7 @@ fn with_digit(n: u32, b: u8) -> u32
     if b < ZERO {
         return NO_FIELD;
     }
-    if ZERO + 9 < b {
+    if NINE < b {
         return NO_FIELD;
     }
     n * 10 + b as u32 - 48
@@ -64,7 +71,7 @@ fn first_digit(b: u8) -> u32
     if b <= ZERO {
         return NO_FIELD;
     }
-    if ZERO + 9 < b {
+    if NINE < b {
         return NO_FIELD;
     }
     b as u32 - 48
@@ -132,14 +139,23 @@ fn put_field(out: &mut [u8], at: usize, n: u32)
     requires { ⌜ at + 5 ≤ length (now out) ⌝ }
     ensures { λ _. ⌜ now (out .exit) ≡ sets (now (out .entry)) at (field n) ⌝ }
 {
+    if n < 10 {
+        out[at] = SPACE;
+        out[at + 1] = SPACE;
+        out[at + 2] = SPACE;
+        out[at + 3] = SPACE;
+        out[at + 4] = ZERO + n as u8;
+        return;
+    }
     let tens = n / 10;
     let hundreds = tens / 10;
     let thousands = hundreds / 10;
-    out[at] = column_byte(thousands / 10);
-    out[at + 1] = column_byte(thousands);
-    out[at + 2] = column_byte(hundreds);
-    out[at + 3] = column_byte(tens);
-    out[at + 4] = ZERO + (n % 10) as u8;
+    let first = thousands / 10;
+    out[at] = column_byte(first, first / 10);
+    out[at + 1] = column_byte(thousands, first);
+    out[at + 2] = column_byte(hundreds, thousands);
+    out[at + 3] = column_byte(tens, hundreds);
+    out[at + 4] = ZERO + (n - 10 * tens) as u8;
 }
 
 // Writes a line with the numbers into the front of the output.

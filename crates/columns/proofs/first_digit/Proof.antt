@@ -9,17 +9,14 @@ use Rattle.columns.proofs.first_digit.Tie as tie
 returns : tie.Need-returns
 returns c = let b = c .before .args .b in (first-none b (λ z. digit-below 0 b (omega arith)), omega arith)
 
-add-if2 : tie.Need-add-if2
-add-if2 c = search needs
-
 returns-2 : tie.Need-returns-2
-returns-2 c = let b = c .before .before .args .b in (first-none b (λ z. digit-above 0 b (c .if2 .taken)), omega arith)
+returns-2 c = let b = c .before .before .args .b in (first-none b (λ z. digit-above 0 b (omega arith)), omega arith)
 
 sub-result : tie.Need-sub-result
 sub-result c = search needs
 
 returns-3 : tie.Need-returns-3
-returns-3 c = let b = c .before .before .args .b in (omega (arith, digit-some 0 b (omega arith) (c .if2 .left), first-some b (λ z. omega arith)), omega arith)
+returns-3 c = let b = c .before .before .args .b in (omega (arith, digit-some 0 b (omega arith) (omega arith), first-some b (λ z. omega arith)), omega arith)
 
 pub first-digit-spec : {M : Type 1} → statement M
-first-digit-spec = tie.close (tie.spec returns add-if2 returns-2 sub-result returns-3)
+first-digit-spec = tie.close (tie.spec returns returns-2 sub-result returns-3)
