@@ -48,7 +48,7 @@ same-length : tie.Need-same-length
 same-length c = search needs
 
 returns : tie.Need-returns
-returns c = rw (field-digit (c .before .before .args .n) (c .if1 .taken)) (simp towards-suc)
+returns c = rw (field-digit (c .before .before .args .n) (omega arith)) (simp towards-suc)
 
 column-byte-requires : tie.Need-column-byte-requires
 column-byte-requires c κs = search needs
