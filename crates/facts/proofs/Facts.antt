@@ -1,26 +1,54 @@
--- Laws of facts: no fault exactly where well-formed, terms within 16 bits, and a strict total order.
+-- Laws of facts: the ranges of well-formed terms, no fault exactly where well-formed, and a strict total order.
 -- Assumes nothing.
 use mathlib.Core.Path.{_≡_, refl, sym}
 use mathlib.Core.Logic.{_↔_, _⊎_, inl, inr}
-use mathlib.Core.Bool.{Bool, true, false, cond, _&&_}
+use mathlib.Core.Bool.{Bool, true, false, cond, _&&_, _||_}
 use Prim.Native.Nat.{ℕ, _≤_, _<_}
 use native.Mathlib.Omega.{arith}
-use lib.Dec.{T, eqb, ltb}
-use mir.Facts.{and-yes, yes-and}
-use borrow.Author.Tests.{eqb-true, ltb-true, ltb-false, eq-eqb, ne-eqb, lt-ltb}
+use lib.Dec.{T, leb, ltb, eqb}
+use mir.Facts.{and-yes, yes-and, ltb-yes}
+use borrow.Author.Tests.{eqb-true, ltb-true, ltb-false, eq-eqb, ne-eqb, lt-ltb, le-ltb, le-leb, lt-leb}
+use Rattle.facts.specs.declared.Kind.{Kind}
+use Rattle.facts.specs.declared.Kind.the-variants.{NoTerm, Vocabulary, Name, Literal, BlankNode, Beyond}
 use Rattle.facts.specs.declared.Fact.{Fact}
 use Rattle.facts.specs.declared.Refusal.{Refusal}
 use Rattle.facts.specs.declared.Verdict.{Verdict}
 use Rattle.facts.specs.declared.Verdict.the-variants.{Sound, Faulty}
-use Rattle.facts.specs.Terms.{kindOf, isNoTerm, isVocabulary, isLiteral, isBlank}
+use Rattle.facts.specs.Terms.{kindOf, isNoTerm, isVocabulary, isName, isLiteral, isBlank}
 use Rattle.facts.specs.Facts.{isNode, isPredicate, wellFormed, hasNoTerm, hasBlank, misplaced, faultOf, before}
-use Rattle.facts.proofs.Terms.{by-cases, of-T, none-of, node-clean, clean-node, predicate-clean, clean-predicate, term-within}
+use Rattle.facts.proofs.Terms.{by-cases, of-T, none-of, node-clean, clean-node, predicate-clean, clean-predicate, Within, kind-within}
 
 -- facts with the same three terms are the same
 pub fact-eq : (a b : Fact) → a .subject ≡ b .subject → a .predicate ≡ b .predicate → a .object ≡ b .object → a ≡ b
 fact-eq a b p q r = λ i. record { subject = p i; predicate = q i; object = r i }
 
 -- ---- well-formed facts
+
+-- a node is 6 to 59999
+pub node-range : (n : ℕ) → leb 6 n && ltb n 60000 ≡ isNode n
+unfolding isNode
+node-range n = go (kindOf n) (kind-within n)
+  where
+    go : (k : Kind) → Within k n → leb 6 n && ltb n 60000 ≡ isName k || isLiteral k
+    go NoTerm w = rw (lt-leb 6 n (omega arith))
+    go Vocabulary w = rw (lt-leb 6 n (omega arith))
+    go Name w = rw (le-leb 6 n (omega arith), lt-ltb n 60000 (omega arith))
+    go Literal w = rw (le-leb 6 n (omega arith), lt-ltb n 60000 (omega arith))
+    go BlankNode w = rw (le-leb 6 n (omega arith), le-ltb n 60000 (omega arith))
+    go Beyond w = rw (le-leb 6 n (omega arith), le-ltb n 60000 (omega arith))
+
+-- a predicate is 1 to 39999
+pub predicate-range : (n : ℕ) → ltb 0 n && ltb n 40000 ≡ isPredicate n
+unfolding isPredicate
+predicate-range n = go (kindOf n) (kind-within n)
+  where
+    go : (k : Kind) → Within k n → ltb 0 n && ltb n 40000 ≡ isName k || isVocabulary k
+    go NoTerm w = rw (le-ltb 0 n (omega arith))
+    go Vocabulary w = rw (lt-ltb 0 n (omega arith), lt-ltb n 40000 (omega arith))
+    go Name w = rw (lt-ltb 0 n (omega arith), lt-ltb n 40000 (omega arith))
+    go Literal w = rw (lt-ltb 0 n (omega arith), le-ltb n 40000 (omega arith))
+    go BlankNode w = rw (lt-ltb 0 n (omega arith), le-ltb n 40000 (omega arith))
+    go Beyond w = rw (lt-ltb 0 n (omega arith), le-ltb n 40000 (omega arith))
 
 -- the three parts of being well-formed
 pub parts : (f : Fact) → T (wellFormed f) → T (isNode (f .subject)) × T (isPredicate (f .predicate)) × T (isNode (f .object))
@@ -63,12 +91,18 @@ formed-sound f w =
 pub fault-none : (f : Fact) → faultOf f ≡ Sound ↔ T (wellFormed f)
 fault-none f = (sound-formed f, formed-sound f)
 
+-- a range's end bounds what passes its test
+below : (a n b : ℕ) (t : Bool) → leb a n && ltb n b ≡ t → T t → n < b
+below a n b t e p = ltb-yes (and-yes (leb a n) (ltb n b) (rw e p) .1)
+
 -- the terms of a well-formed fact fit 16 bits
 pub terms-within : (f : Fact) → T (wellFormed f) → (f .subject ≤ 65535) × (f .predicate ≤ 65535) × (f .object ≤ 65535)
-unfolding isNode isPredicate
 terms-within f w =
     let p = parts f w in
-    (term-within (f .subject) (node-clean (kindOf (f .subject)) (p .0) .0), term-within (f .predicate) (predicate-clean (kindOf (f .predicate)) (p .1) .0), term-within (f .object) (node-clean (kindOf (f .object)) (p .2) .0))
+    let s = below 6 (f .subject) 60000 _ (node-range _) (p .0) in
+    let q = below 1 (f .predicate) 40000 _ (predicate-range _) (p .1) in
+    let o = below 6 (f .object) 60000 _ (node-range _) (p .2) in
+    (omega arith, omega arith, omega arith)
 
 -- ---- order
 

@@ -4,9 +4,8 @@ use mathlib.Core.Path.{_≡_, refl}
 use mathlib.Core.Bool.{Bool, true, false, not, _||_}
 use Prim.Native.Nat.{ℕ, _≤_, _<_}
 use native.Mathlib.Omega.{arith}
-use native.Mathlib.Decide.{decLe}
-use lib.Dec.{T}
-use borrow.Author.Tests.{ne-eqb, le-ltb, lt-leb}
+use lib.Dec.{T, leb, ltb, eqb}
+use borrow.Author.Tests.{eqb-true, eqb-false, ltb-true, ltb-false, leb-true, leb-false}
 use Rattle.facts.specs.declared.Kind.{Kind}
 use Rattle.facts.specs.declared.Kind.the-variants.{NoTerm, Vocabulary, Name, Literal, BlankNode, Beyond}
 use Rattle.facts.specs.Terms.{kindOf, isNoTerm, isVocabulary, isName, isLiteral, isBlank}
@@ -79,14 +78,21 @@ node-predicate Literal a b = absurd b
 node-predicate BlankNode a b = absurd a
 node-predicate Beyond a b = absurd a
 
-beyond : (n : ℕ) → 65535 < n → kindOf n ≡ Beyond
-unfolding kindOf
-beyond n h = simp (ne-eqb n 0 (λ e. omega arith), le-ltb n 6 (omega arith), le-ltb n 40000 (omega arith), le-ltb n 60000 (omega arith), lt-leb n 65535 (omega arith))
+-- the numbers of each kind
+abbrev pub Within : Kind → ℕ → Type 0
+Within NoTerm n = n ≡ 0
+Within Vocabulary n = (1 ≤ n) × (n < 6)
+Within Name n = (6 ≤ n) × (n < 40000)
+Within Literal n = (40000 ≤ n) × (n < 60000)
+Within BlankNode n = (60000 ≤ n) × (n ≤ 65535)
+Within Beyond n = 65535 < n
 
--- what is a term fits 16 bits
-pub term-within : (n : ℕ) → isNoTerm (kindOf n) ≡ false → n ≤ 65535
-term-within n e = go (decLe n 65535)
-  where
-    go : Dec (n ≤ 65535) → n ≤ 65535
-    go (yes h) = h
-    go (no h) = let k : isNoTerm Beyond ≡ false = rw (beyond n (omega arith)) at e in let z : _≡_ {A = ℕ} 0 1 = cc in absurd (omega arith)
+pub kind-within : (n : ℕ) → Within (kindOf n) n
+unfolding kindOf
+kind-within n =
+    by-cases (eqb n 0) (λ a. rw a (eqb-true n 0 a))
+    (λ a. by-cases (ltb n 6) (λ b. rw (a, b) (omega (arith, eqb-false n 0 a), ltb-true n 6 b))
+    (λ b. by-cases (ltb n 40000) (λ c. rw (a, b, c) (ltb-false n 6 b, ltb-true n 40000 c))
+    (λ c. by-cases (ltb n 60000) (λ d. rw (a, b, c, d) (ltb-false n 40000 c, ltb-true n 60000 d))
+    (λ d. by-cases (leb n 65535) (λ e. rw (a, b, c, d, e) (ltb-false n 60000 d, leb-true n 65535 e))
+    (λ e. rw (a, b, c, d, e) (leb-false n 65535 e))))))

@@ -1,7 +1,7 @@
 // Terms, facts and answers (document 01, "Terms and facts" and its table of numbers).
 ghost use mathlib.Core.Path.{_≡_};
 ghost use Rattle.facts.specs.Terms.{kindOf, isNoTerm, isVocabulary, isLiteral, isBlank, isName};
-ghost use Rattle.facts.specs.Facts.{hasNoTerm, hasBlank, misplaced, faultOf, before};
+ghost use Rattle.facts.specs.Facts.{isNode, isPredicate, wellFormed, hasNoTerm, hasBlank, misplaced, faultOf, before};
 ghost use Rattle.facts.specs.Answers.{codeOf, numberOf, numbered};
 
 // The kind of a number that stands where a term belongs. Only this crate tells the kinds apart.
@@ -125,6 +125,27 @@ pub struct Fact {
     pub object: u32,
 }
 
+// What may be a subject or an object: a name or a literal.
+fn is_node(n: u32) -> bool
+    ensures { λ r. ⌜ r ≡ isNode n ⌝ }
+{
+    (NAME_FIRST <= n) & (n < BLANK_FIRST)
+}
+
+// What may be a predicate: a name or one of the vocabulary.
+fn is_predicate(n: u32) -> bool
+    ensures { λ r. ⌜ r ≡ isPredicate n ⌝ }
+{
+    (0 < n) & (n < LITERAL_FIRST)
+}
+
+// The fact is well-formed.
+pub fn is_well_formed(f: Fact) -> bool
+    ensures { λ r. ⌜ r ≡ wellFormed f ⌝ }
+{
+    is_node(f.subject) & is_predicate(f.predicate) & is_node(f.object)
+}
+
 // What earns refusal 3: a number of the fact is no term.
 fn has_no_term(f: Fact) -> bool
     ensures { λ r. ⌜ r ≡ hasNoTerm f ⌝ }
@@ -171,10 +192,14 @@ pub enum Verdict {
     Faulty(Refusal),
 }
 
-// The first of refusals 3, 4 and 5 that the fact earns, each over its whole width.
+// The first of refusals 3, 4 and 5 that the fact earns, each over its whole width. Most facts are well-formed, and one
+// cheap test tells.
 pub fn fault(f: Fact) -> Verdict
     ensures { λ r. ⌜ r ≡ faultOf f ⌝ }
 {
+    if is_well_formed(f) {
+        return Verdict::Sound;
+    }
     if has_no_term(f) {
         return Verdict::Faulty(Refusal::Term);
     }
