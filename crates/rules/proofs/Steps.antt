@@ -1,6 +1,6 @@
 -- The table of rows is the six rules, and the tests of a step and of a line say what they should.
 -- Assumes nothing.
-use mathlib.Core.Path.{_≡_, refl, sym, ap, _∙_}
+use mathlib.Core.Path.{_≡_, refl}
 use mathlib.Core.Logic.{_↔_, _⊎_, inl, inr}
 use mathlib.Core.Bool.{Bool, true, false, _&&_}
 use mathlib.Core.Option.{Option, none, some}
@@ -12,16 +12,14 @@ use lib.Dec.{T, leb, ltb, eqb, eqb-refl, leb→le}
 use borrow.Author.Tests.{lt-ltb, le-leb, lt-leb}
 use mir.Facts.{and-yes, yes-and, eqb-yes, not-T}
 use Rattle.facts.specs.declared.Fact.{Fact}
-use Rattle.facts.specs.declared.Verdict.{Verdict}
-use Rattle.facts.specs.declared.Verdict.the-variants.{Sound, Faulty}
-use Rattle.facts.specs.Facts.{fact, wellFormed, faultOf}
+use Rattle.facts.specs.Facts.{fact, wellFormed}
 use Rattle.facts.proofs.Terms.{by-cases, T-of, of-T, of-F}
-use Rattle.facts.proofs.Facts.{fact-eq, fault-none}
+use Rattle.facts.proofs.Facts.{fact-eq}
 use Rattle.rules.specs.declared.Row.{Row}
 use Rattle.rules.specs.Graph.{any}
 use Rattle.rules.specs.Rules.{Gives, sp-sp, sp-data, sc-sc, sc-type, dom-data, range-data, Rule}
 use Rattle.rules.specs.Derivations.{Line, line, factOn, Justified, by-table, by-rule}
-use Rattle.rules.specs.Steps.{same, rows, row, fill, fitsRow, gives, stepTest, stepFrom, justified, isSound}
+use Rattle.rules.specs.Steps.{same, rows, row, fill, fitsRow, gives, stepTest, stepFrom, justified}
 use Rattle.rules.proofs.Tests.{any-in, in-any}
 
 -- ---- equal facts
@@ -134,11 +132,3 @@ step-beyond n p q r (inr h) = by-cases (ltb 0 n) (λ e. rw (e, lt-leb n 6 h)) (�
 pub step-row : (n : ℕ) (p q r : Fact) → (n ≡ 0 → ⊥) → n ≤ length rows → stepTest n p q r ≡ fitsRow (row n) p q r && wellFormed p && wellFormed q && wellFormed r
 unfolding stepTest
 step-row n p q r z h = rw (lt-ltb 0 n (omega (arith, z)), le-leb n 6 h)
-
--- a fact is well-formed exactly where it earns no refusal
-pub sound-formed : (f : Fact) → isSound (faultOf f) ≡ wellFormed f
-sound-formed f = go (faultOf f) refl
-  where
-    go : (v : Verdict) → faultOf f ≡ v → isSound v ≡ wellFormed f
-    go Sound e = sym (of-T (wellFormed f) (fault-none f .0 e))
-    go (Faulty r) e = by-cases (wellFormed f) (λ w. let z : Faulty r ≡ Sound = sym e ∙ fault-none f .1 (T-of _ w) in ap isSound z ∙ sym w) (λ w. sym w)

@@ -7,8 +7,6 @@ use Prim.Native.Nat.{ℕ, _-_}
 use lib.ListN.{length, getD}
 use lib.Dec.{eqb, ltb, leb}
 use Rattle.facts.specs.declared.Fact.{Fact}
-use Rattle.facts.specs.declared.Verdict.{Verdict}
-use Rattle.facts.specs.declared.Verdict.the-variants.{Sound, Faulty}
 use Rattle.facts.specs.Terms.{sc, sp, dom, range, type}
 use Rattle.facts.specs.Facts.{fact, wellFormed}
 use Rattle.rules.specs.declared.Row.{Row}
@@ -90,8 +88,3 @@ unfolding any same stepFrom factOn
 justified table before l =
     cond (eqb (l .rule) 0) (eqb (l .first) 0 && eqb (l .second) 0 && any (same (l .fact)) table)
     (stepFrom (l .rule) (factOn before (l .first)) (factOn before (l .second)) (l .fact))
-
--- no refusal is earned
-abbrev pub isSound : Verdict → Bool
-isSound Sound = true
-isSound (Faulty r) = false

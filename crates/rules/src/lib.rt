@@ -1,10 +1,8 @@
 // The six rules as one table, and a rule step checked against it (document 01, "Rules").
 use facts::Fact;
-use facts::Verdict;
-use facts::fault;
+use facts::is_well_formed;
 ghost use mathlib.Core.Path.{_≡_};
-ghost use Rattle.facts.specs.Facts.{wellFormed};
-ghost use Rattle.rules.specs.Steps.{same, cellOf, fill, fitsRow, stepTest, isSound};
+ghost use Rattle.rules.specs.Steps.{same, cellOf, fill, fitsRow, stepTest};
 
 // The vocabulary.
 const SC: u32 = 1;
@@ -173,23 +171,6 @@ fn fits(w: Row, p: Fact, q: Fact, r: Fact) -> bool
     (p.predicate == w.first)
         & is_same(q, filled(w.second, p, q))
         & is_same(r, filled(w.result, p, q))
-}
-
-// No refusal is earned.
-fn is_sound(v: Verdict) -> bool
-    ensures { λ r. ⌜ r ≡ isSound v ⌝ }
-{
-    match v {
-        Verdict::Sound => true,
-        Verdict::Faulty(_) => false,
-    }
-}
-
-// The fact is well-formed.
-fn is_well_formed(f: Fact) -> bool
-    ensures { λ r. ⌜ r ≡ wellFormed f ⌝ }
-{
-    is_sound(fault(f))
 }
 
 // Rule `rule` gives r from p and q, and all three are well-formed.
