@@ -91,6 +91,11 @@ formed-sound f w =
 pub fault-none : (f : Fact) → faultOf f ≡ Sound ↔ T (wellFormed f)
 fault-none f = (sound-formed f, formed-sound f)
 
+-- a fact that is not well-formed and earns neither 3 nor 4 earns 5
+pub left-misplaced : (f : Fact) → wellFormed f ≡ false → hasNoTerm f ≡ false → hasBlank f ≡ false → misplaced f ≡ true
+unfolding faultOf
+left-misplaced f w t b = by-cases (misplaced f) (λ m. m) (λ m. absurd (rw w at (sound-formed f (rw (t, b, m)))))
+
 -- a range's end bounds what passes its test
 below : (a n b : ℕ) (t : Bool) → leb a n && ltb n b ≡ t → T t → n < b
 below a n b t e p = ltb-yes (and-yes (leb a n) (ltb n b) (rw e p) .1)

@@ -1,7 +1,7 @@
 // Terms, facts and answers (document 01, "Terms and facts" and its table of numbers).
 ghost use mathlib.Core.Path.{_≡_};
-ghost use Rattle.facts.specs.Terms.{kindOf, isNoTerm, isVocabulary, isLiteral, isBlank, isName};
-ghost use Rattle.facts.specs.Facts.{isNode, isPredicate, wellFormed, hasNoTerm, hasBlank, misplaced, faultOf, before};
+ghost use Rattle.facts.specs.Terms.{kindOf, isNoTerm, isBlank, isName};
+ghost use Rattle.facts.specs.Facts.{isNode, isPredicate, wellFormed, hasNoTerm, hasBlank, faultOf, before};
 ghost use Rattle.facts.specs.Answers.{codeOf, numberOf, numbered};
 
 // The kind of a number that stands where a term belongs. Only this crate tells the kinds apart.
@@ -72,32 +72,6 @@ fn is_blank(k: Kind) -> bool
     }
 }
 
-fn is_vocabulary(k: Kind) -> bool
-    ensures { λ r. ⌜ r ≡ isVocabulary k ⌝ }
-{
-    match k {
-        Kind::Vocabulary => true,
-        Kind::NoTerm => false,
-        Kind::Name => false,
-        Kind::Literal => false,
-        Kind::BlankNode => false,
-        Kind::Beyond => false,
-    }
-}
-
-fn is_literal(k: Kind) -> bool
-    ensures { λ r. ⌜ r ≡ isLiteral k ⌝ }
-{
-    match k {
-        Kind::Literal => true,
-        Kind::NoTerm => false,
-        Kind::Vocabulary => false,
-        Kind::Name => false,
-        Kind::BlankNode => false,
-        Kind::Beyond => false,
-    }
-}
-
 fn is_name_kind(k: Kind) -> bool
     ensures { λ r. ⌜ r ≡ isName k ⌝ }
 {
@@ -162,15 +136,6 @@ fn has_blank(f: Fact) -> bool
     is_blank(kind_of(f.subject)) | is_blank(kind_of(f.predicate)) | is_blank(kind_of(f.object))
 }
 
-// What earns refusal 5: vocabulary as subject or object, or a literal as predicate.
-pub fn is_misplaced(f: Fact) -> bool
-    ensures { λ r. ⌜ r ≡ misplaced f ⌝ }
-{
-    is_vocabulary(kind_of(f.subject))
-        | is_vocabulary(kind_of(f.object))
-        | is_literal(kind_of(f.predicate))
-}
-
 // What document 01 refuses, under its own words.
 pub enum Refusal {
     Size,
@@ -193,7 +158,7 @@ pub enum Verdict {
 }
 
 // The first of refusals 3, 4 and 5 that the fact earns, each over its whole width. Most facts are well-formed, and one
-// cheap test tells.
+// cheap test tells; what is not and earns neither 3 nor 4 has a term in a wrong part.
 pub fn fault(f: Fact) -> Verdict
     ensures { λ r. ⌜ r ≡ faultOf f ⌝ }
 {
@@ -206,10 +171,7 @@ pub fn fault(f: Fact) -> Verdict
     if has_blank(f) {
         return Verdict::Faulty(Refusal::Blank);
     }
-    if is_misplaced(f) {
-        return Verdict::Faulty(Refusal::Part);
-    }
-    Verdict::Sound
+    Verdict::Faulty(Refusal::Part)
 }
 
 // The order of facts: by subject, then predicate, then object.

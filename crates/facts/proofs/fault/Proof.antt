@@ -1,10 +1,10 @@
--- `facts::fault` meets its contract: a well-formed fact earns nothing, any other 3, then 4, then 5.
+-- `facts::fault` meets its contract: a well-formed fact earns nothing, any other 3, then 4, and 5 is left.
 -- Assumes nothing.
 use mathlib.Core.Path.{sym, _∙_}
 use borrow.Author.Needs.{needs}
 use Rattle.facts.specs.Facts.{faultOf}
 use Rattle.facts.proofs.Terms.{T-of}
-use Rattle.facts.proofs.Facts.{fault-none}
+use Rattle.facts.proofs.Facts.{fault-none, left-misplaced}
 use Rattle.facts.proofs.fault.Statement.{statement}
 use Rattle.facts.proofs.fault.Tie as tie
 
@@ -28,16 +28,13 @@ returns-3 : tie.Need-returns-3
 unfolding faultOf
 returns-3 c = rw (← c .before .before .before .has-no-term .ensures, c .before .before .if2 .left, ← c .before .has-blank .ensures, c .if3 .taken)
 
-is-misplaced-requires : tie.Need-is-misplaced-requires
-is-misplaced-requires c κs = search needs
-
 returns-4 : tie.Need-returns-4
 unfolding faultOf
-returns-4 c = rw (← c .before .before .before .before .before .has-no-term .ensures, c .before .before .before .before .if2 .left, ← c .before .before .before .has-blank .ensures, c .before .before .if3 .left, ← c .before .is-misplaced .ensures, c .if4 .taken)
-
-returns-5 : tie.Need-returns-5
-unfolding faultOf
-returns-5 c = rw (← c .before .before .before .before .before .has-no-term .ensures, c .before .before .before .before .if2 .left, ← c .before .before .before .has-blank .ensures, c .before .before .if3 .left, ← c .before .is-misplaced .ensures, c .if4 .left)
+returns-4 c =
+    let w = sym (c .before .before .before .before .before .is-well-formed .ensures) ∙ c .before .before .before .before .if1 .left in
+    let t = sym (c .before .before .before .has-no-term .ensures) ∙ c .before .before .if2 .left in
+    let b = sym (c .before .has-blank .ensures) ∙ c .if3 .left in
+    rw (t, b, left-misplaced _ w t b)
 
 pub fault-spec : {M : Type 1} → statement M
 fault-spec =
@@ -49,6 +46,4 @@ fault-spec =
     returns-2
     has-blank-requires
     returns-3
-    is-misplaced-requires
-    returns-4
-    returns-5)
+    returns-4)
