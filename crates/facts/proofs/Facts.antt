@@ -2,7 +2,7 @@
 -- Assumes nothing.
 use mathlib.Core.Path.{_≡_, refl, sym}
 use mathlib.Core.Logic.{_↔_, _⊎_, inl, inr}
-use mathlib.Core.Bool.{Bool, true, false, cond, _&&_, _||_}
+use mathlib.Core.Bool.{Bool, true, false, not, cond, _&&_, _||_}
 use Prim.Native.Nat.{ℕ, _≤_, _<_}
 use native.Mathlib.Omega.{arith}
 use lib.Dec.{T, leb, ltb, eqb}
@@ -16,7 +16,7 @@ use Rattle.facts.specs.declared.Verdict.{Verdict}
 use Rattle.facts.specs.declared.Verdict.the-variants.{Sound, Faulty}
 use Rattle.facts.specs.Terms.{kindOf, isNoTerm, isVocabulary, isName, isLiteral, isBlank}
 use Rattle.facts.specs.Facts.{isNode, isPredicate, wellFormed, hasNoTerm, hasBlank, misplaced, faultOf, before}
-use Rattle.facts.proofs.Terms.{by-cases, of-T, none-of, node-clean, clean-node, predicate-clean, clean-predicate, Within, kind-within}
+use Rattle.facts.proofs.Terms.{by-cases, of-T, none-of, node-kinds, predicate-kinds, Within, kind-within}
 
 -- facts with the same three terms are the same
 pub fact-eq : (a b : Fact) → a .subject ≡ b .subject → a .predicate ≡ b .predicate → a .object ≡ b .object → a ≡ b
@@ -63,33 +63,43 @@ unfolding wellFormed
 whole f s p o = yes-and (isNode (f .subject) && isPredicate (f .predicate)) _ (yes-and (isNode (f .subject)) _ s p) o
 
 -- a test that is not refused
-passed : (b : Bool) (r : Refusal) (v : Verdict) → cond b (Faulty r) v ≡ Sound → (b ≡ false) × (v ≡ Sound)
-passed false r v e = (refl, e)
+passed : (b : Bool) (r : Refusal) (v : Verdict) → cond b (Faulty r) v ≡ Sound → T (not b) × (v ≡ Sound)
+passed false r v e = (tt, e)
 passed true r v e = let z : _≡_ {A = ℕ} 0 1 = cc in absurd (omega arith)
 
-sound-formed : (f : Fact) → faultOf f ≡ Sound → T (wellFormed f)
-unfolding faultOf isNode isPredicate
-sound-formed f e =
-    let a = passed (hasNoTerm f) _ _ e in
-    let b = passed (hasBlank f) _ _ (a .1) in
-    let c = passed (misplaced f) _ _ (b .1) in
-    let x = none-of (isNoTerm (kindOf (f .subject))) (isNoTerm (kindOf (f .predicate))) (isNoTerm (kindOf (f .object))) (a .0) in
-    let y = none-of (isBlank (kindOf (f .subject))) (isBlank (kindOf (f .predicate))) (isBlank (kindOf (f .object))) (b .0) in
-    let z = none-of (isVocabulary (kindOf (f .subject))) (isVocabulary (kindOf (f .object))) (isLiteral (kindOf (f .predicate))) (c .0) in
-    whole f (clean-node (kindOf (f .subject)) (x .0) (y .0) (z .0)) (clean-predicate (kindOf (f .predicate)) (x .1) (y .1) (z .2)) (clean-node (kindOf (f .object)) (x .2) (y .2) (z .1))
-
-formed-sound : (f : Fact) → T (wellFormed f) → faultOf f ≡ Sound
-unfolding faultOf isNode isPredicate
-formed-sound f w =
-    let p = parts f w in
-    let s = node-clean (kindOf (f .subject)) (p .0) in
-    let q = predicate-clean (kindOf (f .predicate)) (p .1) in
-    let o = node-clean (kindOf (f .object)) (p .2) in
-    rw (s .0, q .0, o .0, s .1, q .1, o .1, s .2, o .2, q .2)
-
 -- a fact earns none of 3, 4, 5 exactly where it is well-formed
-pub fault-none : (f : Fact) → faultOf f ≡ Sound ↔ T (wellFormed f)
-fault-none f = (sound-formed f, formed-sound f)
+module _ (f : Fact) where
+  abbrev s : Kind
+  s = kindOf (f .subject)
+
+  abbrev p : Kind
+  p = kindOf (f .predicate)
+
+  abbrev o : Kind
+  o = kindOf (f .object)
+
+  sound-formed : faultOf f ≡ Sound → T (wellFormed f)
+  unfolding faultOf isNode isPredicate
+  sound-formed e =
+      let a = passed (hasNoTerm f) _ _ e in
+      let b = passed (hasBlank f) _ _ (a .1) in
+      let c = passed (misplaced f) _ _ (b .1) in
+      let x = none-of (isNoTerm s) (isNoTerm p) (isNoTerm o) (a .0) in
+      let y = none-of (isBlank s) (isBlank p) (isBlank o) (b .0) in
+      let z = none-of (isVocabulary s) (isVocabulary o) (isLiteral p) (c .0) in
+      whole f (rw (node-kinds s, x .0, y .0, z .0) tt) (rw (predicate-kinds p, x .1, y .1, z .2) tt) (rw (node-kinds o, x .2, y .2, z .1) tt)
+
+  formed-sound : T (wellFormed f) → faultOf f ≡ Sound
+  unfolding faultOf isNode isPredicate
+  formed-sound w =
+      let t = parts f w in
+      let x = none-of (isNoTerm s) (isBlank s) (isVocabulary s) (rw (node-kinds s) at (t .0)) in
+      let y = none-of (isNoTerm p) (isBlank p) (isLiteral p) (rw (predicate-kinds p) at (t .1)) in
+      let z = none-of (isNoTerm o) (isBlank o) (isVocabulary o) (rw (node-kinds o) at (t .2)) in
+      rw (x .0, y .0, z .0, x .1, y .1, z .1, x .2, z .2, y .2)
+
+  pub fault-none : faultOf f ≡ Sound ↔ T (wellFormed f)
+  fault-none = (sound-formed, formed-sound)
 
 -- a fact that is not well-formed and earns neither 3 nor 4 earns 5
 pub left-misplaced : (f : Fact) → wellFormed f ≡ false → hasNoTerm f ≡ false → hasBlank f ≡ false → misplaced f ≡ true

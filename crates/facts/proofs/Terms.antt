@@ -28,46 +28,29 @@ of-F true t = absurd t
 of-F false t = refl
 
 -- three tests that all fail
-pub none-of : (a b c : Bool) → a || b || c ≡ false → (a ≡ false) × (b ≡ false) × (c ≡ false)
-none-of false false c e = (refl, refl, e)
-none-of false true c e = let z : _≡_ {A = ℕ} 0 1 = cc in absurd (omega arith)
-none-of true b c e = let z : _≡_ {A = ℕ} 0 1 = cc in absurd (omega arith)
+pub none-of : (a b c : Bool) → T (not (a || b || c)) → (a ≡ false) × (b ≡ false) × (c ≡ false)
+none-of false false c t = (refl, refl, of-F c t)
+none-of false true c t = absurd t
+none-of true b c t = absurd t
 
 -- ---- kinds
 
--- a name or a literal, and what it is not
-pub node-clean : (k : Kind) → T (isName k || isLiteral k) → (isNoTerm k ≡ false) × (isBlank k ≡ false) × (isVocabulary k ≡ false)
-node-clean NoTerm t = absurd t
-node-clean Vocabulary t = absurd t
-node-clean Name t = (refl, refl, refl)
-node-clean Literal t = (refl, refl, refl)
-node-clean BlankNode t = absurd t
-node-clean Beyond t = absurd t
+-- a node is what is neither no term nor a blank node nor vocabulary, and a predicate likewise without the literals
+pub node-kinds : (k : Kind) → isName k || isLiteral k ≡ not (isNoTerm k || isBlank k || isVocabulary k)
+node-kinds NoTerm = refl
+node-kinds Vocabulary = refl
+node-kinds Name = refl
+node-kinds Literal = refl
+node-kinds BlankNode = refl
+node-kinds Beyond = refl
 
-pub clean-node : (k : Kind) → isNoTerm k ≡ false → isBlank k ≡ false → isVocabulary k ≡ false → T (isName k || isLiteral k)
-clean-node NoTerm a b c = let z : _≡_ {A = ℕ} 0 1 = cc in absurd (omega arith)
-clean-node Vocabulary a b c = let z : _≡_ {A = ℕ} 0 1 = cc in absurd (omega arith)
-clean-node Name a b c = tt
-clean-node Literal a b c = tt
-clean-node BlankNode a b c = let z : _≡_ {A = ℕ} 0 1 = cc in absurd (omega arith)
-clean-node Beyond a b c = let z : _≡_ {A = ℕ} 0 1 = cc in absurd (omega arith)
-
--- a name or one of the vocabulary, and what it is not
-pub predicate-clean : (k : Kind) → T (isName k || isVocabulary k) → (isNoTerm k ≡ false) × (isBlank k ≡ false) × (isLiteral k ≡ false)
-predicate-clean NoTerm t = absurd t
-predicate-clean Vocabulary t = (refl, refl, refl)
-predicate-clean Name t = (refl, refl, refl)
-predicate-clean Literal t = absurd t
-predicate-clean BlankNode t = absurd t
-predicate-clean Beyond t = absurd t
-
-pub clean-predicate : (k : Kind) → isNoTerm k ≡ false → isBlank k ≡ false → isLiteral k ≡ false → T (isName k || isVocabulary k)
-clean-predicate NoTerm a b c = let z : _≡_ {A = ℕ} 0 1 = cc in absurd (omega arith)
-clean-predicate Vocabulary a b c = tt
-clean-predicate Name a b c = tt
-clean-predicate Literal a b c = let z : _≡_ {A = ℕ} 0 1 = cc in absurd (omega arith)
-clean-predicate BlankNode a b c = let z : _≡_ {A = ℕ} 0 1 = cc in absurd (omega arith)
-clean-predicate Beyond a b c = let z : _≡_ {A = ℕ} 0 1 = cc in absurd (omega arith)
+pub predicate-kinds : (k : Kind) → isName k || isVocabulary k ≡ not (isNoTerm k || isBlank k || isLiteral k)
+predicate-kinds NoTerm = refl
+predicate-kinds Vocabulary = refl
+predicate-kinds Name = refl
+predicate-kinds Literal = refl
+predicate-kinds BlankNode = refl
+predicate-kinds Beyond = refl
 
 -- what may be both a node and a predicate is a name
 pub node-predicate : (k : Kind) → T (isName k || isLiteral k) → T (isName k || isVocabulary k) → isName k ≡ true
