@@ -59,6 +59,7 @@ fn is_no_term(k: Kind) -> bool
     }
 }
 
+// A blank node.
 fn is_blank(k: Kind) -> bool
     ensures { λ r. ⌜ r ≡ isBlank k ⌝ }
 {
@@ -72,6 +73,7 @@ fn is_blank(k: Kind) -> bool
     }
 }
 
+// A name.
 fn is_name_kind(k: Kind) -> bool
     ensures { λ r. ⌜ r ≡ isName k ⌝ }
 {
@@ -224,6 +226,7 @@ fn refusal_number(r: Refusal) -> u32
     }
 }
 
+// A code by its three numbers.
 fn numbers(number: u32, place: u32, count: u32) -> Code
     ensures { λ r. ⌜ r ≡ numbered number place count ⌝ }
 {
