@@ -12,11 +12,14 @@ use Rattle.columns.specs.Fields.{isField, fieldAt}
 use Rattle.columns.specs.Lines.{laidOut}
 use Rattle.columns.proofs.Fields.{both, field-below}
 use Rattle.columns.proofs.Columns.{field-number}
-use Rattle.facts.proofs.Terms.{by-cases}
+use Rattle.facts.proofs.Terms.{by-cases, T-of}
+use Rattle.facts.proofs.Facts.{terms-within}
+use Rattle.facts.specs.declared.Fact.{Fact}
 use Rattle.facts.specs.declared.Refusal.{Refusal}
 use Rattle.facts.specs.declared.Verdict.the-variants.{Sound, Faulty}
-use Rattle.facts.specs.Facts.{fact}
+use Rattle.facts.specs.Facts.{fact, wellFormed}
 use Rattle.table.specs.Tables.{lineFact}
+use Rattle.table.specs.Judged.{lacksField}
 
 -- the test of one field
 no-field : (b : List ℕ) (at : ℕ) → eqb (fieldAt b at) 100000 ≡ not (isField b at)
@@ -42,6 +45,13 @@ laid-line b at =
 pub torn-line : (b : List ℕ) (at : ℕ)
     → eqb (fieldAt b at) 100000 || eqb (fieldAt b (at + 5)) 100000 || eqb (fieldAt b (at + 10)) 100000 || not (eqb (getD b (at + 15) 0) 10) ≡ not (laidOut 3 b at)
 torn-line b at = rw (no-field b at, no-field b (at + 5), no-field b (at + 10), laid-line b at) (none-wrong (isField b at) (isField b (at + 5)) (isField b (at + 10)) (eqb (getD b (at + 15) 0) 10))
+
+-- the numbers of a well-formed fact are numbers of fields
+pub formed-whole : (f : Fact) → wellFormed f ≡ true → lacksField f ≡ false
+unfolding lacksField
+formed-whole f e =
+    let p = terms-within f (T-of _ e) in
+    rw (ne-eqb (f .subject) 100000 (λ z. omega (arith, p .0)), ne-eqb (f .predicate) 100000 (λ z. omega (arith, p .1)), ne-eqb (f .object) 100000 (λ z. omega (arith, p .2)))
 
 -- the fields of a line that is laid out say its fact
 pub laid-fact : (b : List ℕ) (i : ℕ) → laidOut 3 b (16 * i) ≡ true → fact (fieldAt b (16 * i)) (fieldAt b (16 * i + 5)) (fieldAt b (16 * i + 10)) ≡ lineFact b i

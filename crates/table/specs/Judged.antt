@@ -5,6 +5,7 @@ use mathlib.Core.Bool.{Bool, cond, _||_}
 use mathlib.Core.List.{List}
 use Prim.Native.Nat.{ℕ, _+_, _-_, _*_, _≤_, _<_}
 use lib.ListN.{length}
+use lib.Dec.{eqb}
 use Rattle.facts.specs.declared.Fact.{Fact}
 use Rattle.facts.specs.declared.Refusal.the-variants.{Order}
 use Rattle.facts.specs.declared.Verdict.{Verdict}
@@ -21,6 +22,10 @@ orElse (Faulty r) v = Faulty r
 -- the first of 3 to 6 that f earns, with last the fact before it, if it is not the first
 unfoldable pub judged : Bool → Fact → Fact → Verdict
 judged first last f = orElse (faultOf f) (cond (first || before last f) Sound (Faulty Order))
+
+-- a number is 100,000, which stands for no field
+unfoldable pub lacksField : Fact → Bool
+lacksField f = eqb (f .subject) 100000 || eqb (f .predicate) 100000 || eqb (f .object) 100000
 
 -- line i is there, and last is the fact on the line before, if there is one
 pub record NextLine (b : List ℕ) (i : ℕ) (last : Fact) : Type 0 where

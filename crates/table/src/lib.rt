@@ -11,7 +11,7 @@ ghost use lib.ListN.{length, take};
 ghost use lib.Seq.{sets};
 ghost use Rattle.columns.specs.Lines.{itemsFrom, over};
 ghost use Rattle.table.specs.Tables.{terms, rowOf, tableBytes, rowFact, tableOf, tableOfRow, settled, filled, scanOf, loaded};
-ghost use Rattle.table.specs.Judged.{judged, NextLine, LineJudged};
+ghost use Rattle.table.specs.Judged.{judged, lacksField, NextLine, LineJudged};
 
 // The fields, bytes and numbers of a fact, and the most of each in a table.
 const FIELDS: usize = 3;
@@ -56,6 +56,16 @@ pub struct Judged {
     pub fact: Fact,
 }
 
+// A field of the three that were read is none. No number of a well-formed fact stands for that, so most lines need no more tests.
+fn lacks_field(f: Fact) -> bool
+    ensures { λ r. ⌜ r ≡ lacksField f ⌝ }
+{
+    if facts::is_well_formed(f) {
+        return false;
+    }
+    (f.subject == NO_FIELD) | (f.predicate == NO_FIELD) | (f.object == NO_FIELD)
+}
+
 // Reads and judges a line, with last the fact on the line before, if there is one.
 fn judge_line(bytes: &[u8], i: usize, last: Fact) -> Judged
     requires { ⌜ NextLine (now bytes) i last ⌝ }
@@ -70,8 +80,7 @@ fn judge_line(bytes: &[u8], i: usize, last: Fact) -> Judged
         predicate: predicate,
         object: object,
     };
-    let torn = (subject == NO_FIELD) | (predicate == NO_FIELD) | (object == NO_FIELD);
-    if torn | (bytes[at + 15] != LINE_END) {
+    if lacks_field(f) | (bytes[at + 15] != LINE_END) {
         return Judged {
             verdict: Verdict::Faulty(Refusal::Column),
             fact: f,

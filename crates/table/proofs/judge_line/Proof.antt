@@ -10,6 +10,7 @@ use Rattle.columns.specs.Lines.{laidOut}
 use Rattle.facts.specs.Facts.{fact}
 use Rattle.table.specs.Scans.{earns, firstEarned}
 use Rattle.table.specs.Tables.{lineFact, lineVerdict}
+use Rattle.table.specs.Judged.{lacksField}
 use Rattle.table.proofs.Scans.{judged-line}
 use Rattle.table.proofs.Torn.{torn-line, laid-fact, not-sound}
 use Rattle.table.proofs.judge_line.Statement.{statement}
@@ -33,6 +34,9 @@ add-field-at-2 c = search needs
 field-at-requires-3 : tie.Need-field-at-requires-3
 field-at-requires-3 c κs = search needs
 
+lacks-field-requires : tie.Need-lacks-field-requires
+lacks-field-requires c κs = search needs
+
 add-if1 : tie.Need-add-if1
 add-if1 c = search needs
 
@@ -40,31 +44,31 @@ shared-slice-read-if1 : tie.Need-shared-slice-read-if1
 shared-slice-read-if1 c = search needs
 
 returns : tie.Need-returns
-unfolding lineVerdict firstEarned earns
+unfolding lineVerdict firstEarned earns lacksField
 returns c =
-    let s = c .before .before .before .before .before .before in
-    let b = now (s .args .bytes) in
-    let i = s .args .i in
-    let f₁ = c .before .before .before .before .field-at .ensures in
-    let f₂ = c .before .before .before .field-at2 .ensures in
-    let f₃ = c .before .before .field-at3 .ensures in
-    let torn : laidOut 3 b (16 * i) ≡ false = not-true _ (sym (torn-line b (16 * i)) ∙ rw (f₁, f₂, f₃) at (c .if1 .taken)) in
-    record { verdict = rw torn; fact = λ z. absurd (not-sound _ z) }
-
-judge-requires : tie.Need-judge-requires
-judge-requires c κs = search needs
-
-returns-2 : tie.Need-returns-2
-unfolding lineVerdict
-returns-2 c =
     let s = c .before .before .before .before .before .before .before in
     let b = now (s .args .bytes) in
     let i = s .args .i in
     let f₁ = c .before .before .before .before .before .field-at .ensures in
     let f₂ = c .before .before .before .before .field-at2 .ensures in
     let f₃ = c .before .before .before .field-at3 .ensures in
-    let laid : laidOut 3 b (16 * i) ≡ true = not-false _ (sym (torn-line b (16 * i)) ∙ rw (f₁, f₂, f₃) at (c .before .if1 .left)) in
-    let f : fact (c .before .before .before .before .before .field-at .result) (c .before .before .before .before .field-at2 .result) (c .before .before .before .field-at3 .result) ≡ lineFact b i =
+    let torn : laidOut 3 b (16 * i) ≡ false = not-true _ (sym (torn-line b (16 * i)) ∙ rw (c .before .before .lacks-field .ensures, f₁, f₂, f₃) at (c .if1 .taken)) in
+    record { verdict = rw torn; fact = λ z. absurd (not-sound _ z) }
+
+judge-requires : tie.Need-judge-requires
+judge-requires c κs = search needs
+
+returns-2 : tie.Need-returns-2
+unfolding lineVerdict lacksField
+returns-2 c =
+    let s = c .before .before .before .before .before .before .before .before in
+    let b = now (s .args .bytes) in
+    let i = s .args .i in
+    let f₁ = c .before .before .before .before .before .before .field-at .ensures in
+    let f₂ = c .before .before .before .before .before .field-at2 .ensures in
+    let f₃ = c .before .before .before .before .field-at3 .ensures in
+    let laid : laidOut 3 b (16 * i) ≡ true = not-false _ (sym (torn-line b (16 * i)) ∙ rw (c .before .before .before .lacks-field .ensures, f₁, f₂, f₃) at (c .before .if1 .left)) in
+    let f : fact (c .before .before .before .before .before .before .field-at .result) (c .before .before .before .before .before .field-at2 .result) (c .before .before .before .before .field-at3 .result) ≡ lineFact b i =
     rw (f₁, f₂, f₃) (laid-fact b i laid) in
     record { verdict = c .judge .ensures ∙ rw (f, laid) (sym (judged-line (lineFact b) i (s .args .last) (s .pre .before))); fact = λ z. f }
 
@@ -78,6 +82,7 @@ judge-line-spec =
     field-at-requires-2
     add-field-at-2
     field-at-requires-3
+    lacks-field-requires
     add-if1
     shared-slice-read-if1
     returns
