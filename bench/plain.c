@@ -1,6 +1,9 @@
 /* The fact box's calls in plain C, written for speed: one pass over the table's bytes, breadth-first search over the
  * table's facts with one visit of each part of the sorted table, no allocation, no copies. Nothing here is proved; the
- * differential test in tests/ can be run on it as on the proved library. */
+ * differential test in tests/ can be run on it as on the proved library.
+ *
+ * With TUNED, it takes three shortcuts that the proved code takes: a field is read and written without a loop, and a
+ * well-formed fact is told by three ranges. */
 #include "plain.h"
 
 #include <string.h>
@@ -23,10 +26,50 @@ static int is_name(uint32_t t) { return t - NAME_FIRST < LITERAL_FIRST - NAME_FI
 
 /* The first of refusals 3, 4, 5, or 0. */
 static unsigned fault(uint32_t s, uint32_t p, uint32_t o) {
+#ifdef TUNED
+    const uint32_t nodes = BLANK_FIRST - NAME_FIRST;
+    if (s - NAME_FIRST < nodes && p - 1 < LITERAL_FIRST - 1 && o - NAME_FIRST < nodes) return 0;
+#endif
     if (s - 1 >= TERM_LAST || p - 1 >= TERM_LAST || o - 1 >= TERM_LAST) return 3;
     if (s >= BLANK_FIRST || p >= BLANK_FIRST || o >= BLANK_FIRST) return 4;
     return s < NAME_FIRST || o < NAME_FIRST || p >= LITERAL_FIRST ? 5 : 0;
 }
+
+#ifdef TUNED
+
+/* Puts a digit behind a number; 0 where the byte is none. */
+static int digit(uint8_t byte, uint32_t *number) {
+    uint32_t d = (uint32_t)byte - '0';
+    *number = 10 * *number + d;
+    return d <= 9;
+}
+
+/* Reads a five-column field; 0 where it is not laid out well. One case for each column of the first digit. */
+static int field(const uint8_t *at, uint32_t *number) {
+    uint32_t n = 0;
+    int good;
+    if (at[0] != ' ') good = digit(at[0], &n) && n && digit(at[1], &n) && digit(at[2], &n) && digit(at[3], &n) && digit(at[4], &n);
+    else if (at[1] != ' ') good = digit(at[1], &n) && n && digit(at[2], &n) && digit(at[3], &n) && digit(at[4], &n);
+    else if (at[2] != ' ') good = digit(at[2], &n) && n && digit(at[3], &n) && digit(at[4], &n);
+    else if (at[3] != ' ') good = digit(at[3], &n) && n && digit(at[4], &n);
+    else good = digit(at[4], &n);
+    *number = n;
+    return good;
+}
+
+static void put_field(uint8_t *at, uint32_t n) {
+    memcpy(at, "    ", 4);
+    at[4] = (uint8_t)('0' + n % 10);
+    if (n < 10) return;
+    at[3] = (uint8_t)('0' + n / 10 % 10);
+    if (n < 100) return;
+    at[2] = (uint8_t)('0' + n / 100 % 10);
+    if (n < 1000) return;
+    at[1] = (uint8_t)('0' + n / 1000 % 10);
+    if (n >= 10000) at[0] = (uint8_t)('0' + n / 10000);
+}
+
+#else
 
 /* Reads a five-column field; 0 where it is not laid out well. */
 static int field(const uint8_t *at, uint32_t *number) {
@@ -49,6 +92,8 @@ static void put_field(uint8_t *at, uint32_t n) {
     do *at-- = (uint8_t)('0' + n % 10);
     while (n /= 10);
 }
+
+#endif
 
 /* Reads a table into facts; 0, or its refusal. */
 static uint64_t load(const uint8_t *table, size_t len, fact *facts) {

@@ -1,9 +1,9 @@
 #!/usr/bin/env python3
 """Runs the benchmark and writes its results as Markdown tables and a plot.
 
-report.py BENCH PROGRAM DIR: in DIR/PERFORMANCE.md, what stands between the two marks is written anew (the file is made where
-there is none); DIR/performance.svg is the plot. Instructions are callgrind's, and the same in every run; times are medians
-over interleaved pairs of calls.
+report.py BENCH TUNED PROGRAM DIR: in DIR/PERFORMANCE.md, what stands between the two marks is written anew (the file is made
+where there is none); DIR/performance.svg is the plot. BENCH has the plain implementation, TUNED the one with the proved
+code's shortcuts. Instructions are callgrind's, and the same in every run; times are medians over interleaved pairs of calls.
 """
 import math
 import os
@@ -156,7 +156,20 @@ def plot(counts, families, top):
     return "\n".join(svg + ["</svg>"]) + "\n"
 
 
-def main(bench, program, folder):
+def ratio_table(counts, families):
+    """The ratios of both calls by family and size, and their geometric means."""
+    rows, means = [], []
+    for call in ("question", "check"):
+        _, ratios, _ = instruction_table(call, counts, families)
+        means.append(geometric_mean(ratios))
+        for family in families:
+            pairs = [(counts.get(f"{family}\t{n}\t{call}\tproved"), counts.get(f"{family}\t{n}\t{call}\tplain")) for n in SIZES]
+            if pairs[0][0]:
+                rows.append([f"{call}: {family}", *(f"{a / b:.2f}" for a, b in pairs)])
+    return table(["Call and family", *(f"{n:,}" for n in SIZES)], rows), means
+
+
+def main(bench, tuned, program, folder):
     times = {}
     for line in output(bench, "time").decode().splitlines():
         family, n, call, mode, *values = line.split("\t")
@@ -166,11 +179,14 @@ def main(bench, program, folder):
     counts = {name: sum(by.values()) for name, by in dumps.items()}
     questions, question_ratios, question_growth = instruction_table("question", counts, families)
     checks, check_ratios, check_growth = instruction_table("check", counts, families)
+    tuned_counts = {name: sum(by.values()) for name, by in callgrind(tuned, "count").items()}
+    tuned_ratios, tuned_means = ratio_table(tuned_counts, families)
     programs, program_ratios = program_table(bench, program)
     compiler = output("cc", "--version").decode().splitlines()[0]
     means = [f"{geometric_mean(ratios):.2f}" for ratios in (question_ratios, check_ratios, question_ratios + check_ratios)]
     summary = table(["Aim", "Measured"], [
         ["instructions against plain C, geometric mean: at most 1.00", f"question {means[0]}, check {means[1]}, both {means[2]}"],
+        ["the same, with the proved code's three shortcuts built into plain C", f"question {tuned_means[0]:.2f}, check {tuned_means[1]:.2f}"],
         ["growth from 512 to 1,024 facts, in each family: at most 2.30", f"question {question_growth:.2f}, check {check_growth:.2f} at most"],
         ["instructions of the program against the sum of its calls: at most 2.00", ", ".join(f"{r:.2f}" for r in program_ratios)],
     ], right=False)
@@ -181,6 +197,9 @@ def main(bench, program, folder):
         "![Ratio of instructions by family and number of facts](performance.svg)", "",
         "### Instructions of one question", "", questions,
         "### Instructions of one check of the derivation printed", "", checks,
+        "### Ratios against plain C with the proved code's shortcuts", "",
+        "`bench/plain.c` with `TUNED`: fields are read and written without a loop, a well-formed fact is told by three ranges.", "",
+        tuned_ratios,
         "### Where the instructions of a question go, 1,024 facts", "", function_table(dumps, "question", families),
         "### Where the instructions of a check go, 1,024 facts", "", function_table(dumps, "check", families),
         "### Times of one question, microseconds", "",
@@ -198,6 +217,6 @@ def main(bench, program, folder):
 
 
 if __name__ == "__main__":
-    if len(sys.argv) != 4:
+    if len(sys.argv) != 5:
         sys.exit(__doc__)
     main(*sys.argv[1:])
