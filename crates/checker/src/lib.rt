@@ -7,14 +7,17 @@ use facts::Verdict;
 use rules::Line;
 use table::Scan;
 ghost use mathlib.Core.Path.{_≡_};
-ghost use Prim.Native.Nat.{_+_, _*_, _≤_, _<_};
+ghost use mathlib.Core.Bool.{cond};
+ghost use Prim.Native.Nat.{_+_, _-_, _*_, _≤_, _<_};
 ghost use lib.ListN.{length};
+ghost use Rattle.facts.specs.declared.Refusal.the-variants.{Step, End};
+ghost use Rattle.facts.specs.declared.Answer.the-variants.{Accepted, Refused};
 ghost use Rattle.table.specs.Scans.{scan};
-ghost use Rattle.rules.specs.Derivations.{tableLines};
 ghost use Rattle.rules.specs.Graph.{any};
 ghost use Rattle.rules.specs.Steps.{same, justified};
 ghost use Rattle.derivation.specs.Bytes.{lineAt};
-ghost use Rattle.checker.specs.Check.{linesOf, tableLine, ruleLine, formVerdict, stepVerdict, endAnswer, linesAnswer, derivationAnswer, checkAnswer};
+ghost use Rattle.checker.specs.Check.{linesOf, tableLine, ruleLine, formVerdict, after, linesAnswer, derivationAnswer, checkAnswer};
+ghost use Rattle.checker.specs.Near.{Behind};
 ghost use Rattle.checker.specs.Holds.{rowFacts, Ascends, Cut};
 
 // The numbers of a full row; the fields and bytes of a derivation line, and the bytes of 2,047 lines.
@@ -70,9 +73,29 @@ fn is_table_line(row: &[u32], n: usize, l: Line) -> bool
     holds(row, n, l.fact)
 }
 
+// The facts on the two lines before a line, which the lines of a printed derivation rest on.
+pub struct Near {
+    pub last: Fact,
+    pub before: Fact,
+}
+
+// The fact on line k, counted from 1, of the i lines before.
+fn premise(derivation: &[u8], i: usize, k: usize, near: Near) -> Fact
+    requires { ⌜ Behind (now derivation) i near × (0 < k) × (k ≤ i) ⌝ }
+    ensures { λ r. ⌜ r ≡ lineAt (now (derivation .entry)) (k - 1) .fact ⌝ }
+{
+    if k == i {
+        return near.last;
+    }
+    if k + 1 == i {
+        return near.before;
+    }
+    derivation::fact_at(derivation, k - 1)
+}
+
 // A rule gives the line from two of the i lines before it.
-fn is_rule_line(derivation: &[u8], i: usize, l: Line) -> bool
-    requires { ⌜ 31 * i ≤ length (now derivation) ⌝ }
+fn is_rule_line(derivation: &[u8], i: usize, l: Line, near: Near) -> bool
+    requires { ⌜ Behind (now derivation) i near ⌝ }
     ensures { λ r. ⌜ r ≡ ruleLine (linesOf (now (derivation .entry)) i) l ⌝ }
 {
     let first = l.first as usize;
@@ -89,30 +112,29 @@ fn is_rule_line(derivation: &[u8], i: usize, l: Line) -> bool
     if i < second {
         return false;
     }
-    let p = derivation::fact_at(derivation, first - 1);
-    let q = derivation::fact_at(derivation, second - 1);
+    let p = premise(derivation, i, first, near);
+    let q = premise(derivation, i, second, near);
     rules::step(l.rule, p, q, l.fact)
 }
 
-// Line i, counted from 0, is a table line, or a rule gives it from two lines before it.
-fn is_justified(row: &[u32], n: usize, derivation: &[u8], i: usize) -> bool
-    requires { ⌜ Ascends (now row) n × (31 * i + 31 ≤ length (now derivation)) ⌝ }
-    ensures { λ r. ⌜ r ≡ justified (rowFacts (now (row .entry)) n) (linesOf (now (derivation .entry)) i) (lineAt (now (derivation .entry)) i) ⌝ }
+// The line is a table line, or a rule gives it from two of the i lines before it.
+fn is_justified(row: &[u32], n: usize, derivation: &[u8], i: usize, l: Line, near: Near) -> bool
+    requires { ⌜ Ascends (now row) n × Behind (now derivation) i near ⌝ }
+    ensures { λ r. ⌜ r ≡ justified (rowFacts (now (row .entry)) n) (linesOf (now (derivation .entry)) i) l ⌝ }
 {
-    let l = derivation::line_at(derivation, i);
     if l.rule == 0 {
         is_table_line(row, n, l)
     } else {
-        is_rule_line(derivation, i, l)
+        is_rule_line(derivation, i, l, near)
     }
 }
 
-// The first line that is badly laid out.
-fn scan_layout(derivation: &[u8], n: usize) -> Scan
-    requires { ⌜ (n ≤ 2047) × (31 * n ≤ length (now derivation)) ⌝ }
-    ensures { λ r. ⌜ r ≡ scan (formVerdict (now (derivation .entry))) 0 n ⌝ }
+// The first line, from one on, that is badly laid out.
+fn scan_layout(derivation: &[u8], from: usize, n: usize) -> Scan
+    requires { ⌜ (from ≤ n) × (n ≤ 2047) × (31 * n ≤ length (now derivation)) ⌝ }
+    ensures { λ r. ⌜ r ≡ scan (formVerdict (now (derivation .entry))) from (n - from) ⌝ }
 {
-    let mut i = 0;
+    let mut i = from;
     while i < n {
         if !columns::is_laid_out(LINE_FIELDS, derivation, LINE_BYTES * i) {
             return Scan::Stops(Refusal::Form, (i + 1) as u32);
@@ -122,62 +144,66 @@ fn scan_layout(derivation: &[u8], n: usize) -> Scan
     Scan::Passes(n as u32)
 }
 
-// The first line that is not justified.
-fn scan_steps(row: &[u32], n: usize, derivation: &[u8], lines: usize) -> Scan
-    requires { ⌜ Ascends (now row) n × (lines ≤ 2047) × (31 * lines ≤ length (now derivation)) ⌝ }
-    ensures { λ r. ⌜ r ≡ scan (stepVerdict (rowFacts (now (row .entry)) n) (now (derivation .entry))) 0 lines ⌝ }
+// The refusal where line i is the first that is not justified: 9 comes before 10, so a later line that is badly laid out, if there
+// is one, is refused.
+fn refuse_step(derivation: &[u8], i: usize, n: usize) -> Answer
+    requires { ⌜ (i < n) × (n ≤ 2047) × (31 * n ≤ length (now derivation)) ⌝ }
+    ensures { λ r. ⌜ r ≡ after (scan (formVerdict (now (derivation .entry))) (i + 1) (n - (i + 1))) (Refused Step (i + 1)) ⌝ }
 {
-    let mut i = 0;
-    while i < lines {
-        if !is_justified(row, n, derivation, i) {
-            return Scan::Stops(Refusal::Step, (i + 1) as u32);
-        }
-        i += 1;
+    match scan_layout(derivation, i + 1, n) {
+        Scan::Stops(r, place) => Answer::Refused(r, place),
+        Scan::Passes(_) => Answer::Refused(Refusal::Step, (i + 1) as u32),
     }
-    Scan::Passes(lines as u32)
 }
 
-// How many lines are table lines.
-fn count_table_lines(derivation: &[u8], n: usize) -> u32
-    requires { ⌜ (n ≤ 2047) × (31 * n ≤ length (now derivation)) ⌝ }
-    ensures { λ r. ⌜ r ≡ tableLines (linesOf (now (derivation .entry)) n) ⌝ }
+// The end of the check of n lines that are all justified, with the fact on the last of them and the number of table lines.
+fn check_end(last: Fact, fact: Fact, count: u32, n: usize) -> Answer
+    requires { ⌜ n ≤ 2047 ⌝ }
+    ensures { λ r. ⌜ r ≡ cond (same last fact) (Accepted count) (Refused End n) ⌝ }
 {
-    let mut count = 0;
-    let mut i = 0;
-    while i < n {
-        let rule = columns::number_at(derivation, LINE_BYTES * i);
-        if rule == 0 {
-            count += 1;
-        }
-        i += 1;
-    }
-    count
-}
-
-// The end of the check of n lines that are all justified.
-fn check_end(fact: Fact, derivation: &[u8], n: usize) -> Answer
-    requires { ⌜ (0 < n) × (n ≤ 2047) × (31 * n ≤ length (now derivation)) ⌝ }
-    ensures { λ r. ⌜ r ≡ endAnswer fact (now (derivation .entry)) n ⌝ }
-{
-    if rules::is_same(derivation::fact_at(derivation, n - 1), fact) {
-        Answer::Accepted(count_table_lines(derivation, n))
+    if rules::is_same(last, fact) {
+        Answer::Accepted(count)
     } else {
         Answer::Refused(Refusal::End, n as u32)
     }
 }
 
-// The check of the n lines.
+// The check of the n lines, each read once.
 fn check_lines(row: &[u32], facts: usize, fact: Fact, derivation: &[u8], n: usize) -> Answer
     requires { ⌜ Ascends (now row) facts × (0 < n) × (n ≤ 2047) × (31 * n ≤ length (now derivation)) ⌝ }
     ensures { λ r. ⌜ r ≡ linesAnswer (rowFacts (now (row .entry)) facts) fact (now (derivation .entry)) n ⌝ }
 {
-    match scan_layout(derivation, n) {
-        Scan::Stops(r, place) => Answer::Refused(r, place),
-        Scan::Passes(_) => match scan_steps(row, facts, derivation, n) {
-            Scan::Stops(r, place) => Answer::Refused(r, place),
-            Scan::Passes(_) => check_end(fact, derivation, n),
-        },
+    let none = Fact {
+        subject: 0,
+        predicate: 0,
+        object: 0,
+    };
+    let mut near = Near {
+        last: none,
+        before: none,
+    };
+    let mut count = 0;
+    let mut i = 0;
+    while i < n {
+        let l = derivation::read_line(derivation, i);
+        if derivation::is_torn(derivation, i, l) {
+            return Answer::Refused(Refusal::Form, (i + 1) as u32);
+        }
+        if !is_justified(row, facts, derivation, i, l, near) {
+            return refuse_step(derivation, i, n);
+        }
+        if l.rule == 0 {
+            count += 1;
+        }
+        let last = l.fact;
+        let before = near.last;
+        near = Near {
+            last: last,
+            before: before,
+        };
+        i += 1;
     }
+    check_end(near.last, fact, count, n)
 }
 
 // The check of a derivation over the row's facts.

@@ -1,14 +1,19 @@
 // Derivation lines as bytes (document 01, "Derivation lines and their check"): six fields and byte 10, 31 bytes a line.
+use columns::NO_FIELD;
 use facts::Fact;
 use rules::Line;
 ghost use mathlib.Core.Path.{_≡_};
+ghost use mathlib.Core.Bool.{not};
 ghost use Prim.Native.Nat.{_+_, _*_, _≤_};
 ghost use lib.ListN.{length};
-ghost use Rattle.columns.specs.Lines.{over};
+ghost use Rattle.columns.specs.Lines.{laidOut, over};
 ghost use Rattle.derivation.specs.Bytes.{lineBytes, lineAt};
+ghost use Rattle.derivation.specs.Read.{readAt};
 
-// The bytes of a line.
+// The bytes of a line, and the last of them.
 pub const LINE_BYTES: usize = 31;
+
+const LINE_END: u8 = 10;
 
 // Writes a line into the front of the output.
 pub fn put_line(l: Line, out: &mut [u8])
@@ -36,20 +41,42 @@ pub fn fact_at(bytes: &[u8], i: usize) -> Fact
     }
 }
 
-// The line at a place, counted from 0, by what its fields say.
-pub fn line_at(bytes: &[u8], i: usize) -> Line
+// The line at a place, counted from 0, with NO_FIELD where no field stands.
+pub fn read_line(bytes: &[u8], i: usize) -> Line
     requires { ⌜ 31 * i + 31 ≤ length (now bytes) ⌝ }
-    ensures { λ r. ⌜ r ≡ lineAt (now (bytes .entry)) i ⌝ }
+    ensures { λ r. ⌜ r ≡ readAt (now (bytes .entry)) i ⌝ }
 {
     let at = LINE_BYTES * i;
-    let rule = columns::number_at(bytes, at);
-    let first = columns::number_at(bytes, at + 5);
-    let second = columns::number_at(bytes, at + 10);
-    let fact = fact_at(bytes, i);
+    let rule = columns::field_at(bytes, at);
+    let first = columns::field_at(bytes, at + 5);
+    let second = columns::field_at(bytes, at + 10);
+    let subject = columns::field_at(bytes, at + 15);
+    let predicate = columns::field_at(bytes, at + 20);
+    let object = columns::field_at(bytes, at + 25);
+    let fact = Fact {
+        subject: subject,
+        predicate: predicate,
+        object: object,
+    };
     Line {
         rule: rule,
         first: first,
         second: second,
         fact: fact,
     }
+}
+
+// Of the line read at a place, some field is none, or byte 10 does not end it.
+pub fn is_torn(bytes: &[u8], i: usize, l: Line) -> bool
+    requires { ⌜ (31 * i + 31 ≤ length (now bytes)) × (l ≡ readAt (now bytes) i) ⌝ }
+    ensures { λ r. ⌜ r ≡ not (laidOut 6 (now (bytes .entry)) (31 * i)) ⌝ }
+{
+    let f = l.fact;
+    (l.rule == NO_FIELD)
+        | (l.first == NO_FIELD)
+        | (l.second == NO_FIELD)
+        | (f.subject == NO_FIELD)
+        | (f.predicate == NO_FIELD)
+        | (f.object == NO_FIELD)
+        | (bytes[LINE_BYTES * i + 30] != LINE_END)
 }

@@ -1,55 +1,100 @@
--- `checker::check_lines` meets its contract: 9 over all lines, then 10, then the end.
+-- `checker::check_lines` meets its contract. The loop's invariant: the lines before the one reached are passed.
 -- Assumes nothing.
-use mathlib.Core.Path.{sym, _∙_}
-use borrow.Author.Needs.{needs}
-use Rattle.checker.specs.Check.{linesAnswer, after}
+use mathlib.Core.Path.{_≡_, sym, _∙_}
+use mathlib.Core.Logic.{⊎-elim}
+use mathlib.Core.Bool.{true}
+use Prim.Native.Nat.{_-_, _*_}
+use native.Mathlib.Omega.{arith}
+use native.Mathlib.Nat.{add-zero}
+use denote.Ref.{now}
+use borrow.Author.Tests.{eq-eqb, ne-eqb, not-true, not-false}
+use Rattle.columns.specs.Lines.{laidOut}
+use Rattle.checker.specs.Holds.{rowFacts}
+use Rattle.checker.proofs.Pass.{Passed, pass-none, pass-end, form-refused, step-refused, pass-more}
 use Rattle.checker.proofs.check_lines.Statement.{statement}
 use Rattle.checker.proofs.check_lines.Tie as tie
 
-scan-layout-requires : tie.Need-scan-layout-requires
-scan-layout-requires c κs = search needs
+abbrev Inv-loop : tie.InvT-loop
+Inv-loop row facts fact derivation n near₀ count₀ i₀ near count i = Passed (rowFacts row facts) fact derivation n i near count
 
-enum-known-r : tie.Need-enum-known-r
-enum-known-r c = search needs
+abbrev μ-loop : tie.MeasureT-loop
+μ-loop row facts fact derivation n near₀ count₀ i₀ near count i = n - i
 
-enum-told : tie.Need-enum-told
-enum-told c = search needs
+-- what the test for 9 leaves
+laid : (c : tie.Else1 Inv-loop μ-loop) → laidOut 6 (now (c .before .before .before .before .before .before .before .args .derivation)) (31 * c .before .before .before .before .loop .i) ≡ true
+laid c = not-false _ (sym (c .before .is-torn .ensures) ∙ c .if1 .left)
 
-scan-steps-requires : tie.Need-scan-steps-requires
-scan-steps-requires c κs = search needs
+loop-holds : tie.Need-loop-holds Inv-loop μ-loop
+loop-holds c = pass-none _ _ _ _ _
 
-enum-known-r-2 : tie.Need-enum-known-r-2
-enum-known-r-2 c = search needs
+read-line-requires : tie.Need-read-line-requires Inv-loop μ-loop
+read-line-requires c κs = omega arith
 
-enum-told-2 : tie.Need-enum-told-2
-enum-told-2 c = search needs
+is-torn-requires : tie.Need-is-torn-requires Inv-loop μ-loop
+is-torn-requires c κs = (omega arith, c .read-line .ensures)
 
-check-end-requires : tie.Need-check-end-requires
-check-end-requires c κs = search needs
+add-t16 : tie.Need-add-t16 Inv-loop μ-loop
+add-t16 c = omega arith
 
-returns : tie.Need-returns
-unfolding linesAnswer after
-returns c = let e = sym (c .before .before .before .scan-layout .ensures) ∙ c .before .r .given .1 in rw e
+cast-t17 : tie.Need-cast-t17 Inv-loop μ-loop
+cast-t17 c = omega arith
 
-returns-2 : tie.Need-returns-2
-unfolding linesAnswer after
-returns-2 c = let e = sym (c .before .before .before .before .before .before .scan-layout .ensures) ∙ c .before .before .before .before .enum-told .given .1 in let g = sym (c .before .before .before .scan-steps .ensures) ∙ c .before .r2 .given .1 in rw (e, g)
+returns : tie.Need-returns Inv-loop μ-loop
+returns c = form-refused _ _ _ _ (c .before .before .before .before .loop .inv) (omega arith) (not-true _ (sym (c .before .is-torn .ensures) ∙ c .if1 .taken))
 
-returns-3 : tie.Need-returns-3
-unfolding linesAnswer after
-returns-3 c = let e = sym (c .before .before .before .before .before .before .scan-layout .ensures) ∙ c .before .before .before .before .enum-told .given .1 in let g = sym (c .before .before .before .scan-steps .ensures) ∙ c .before .enum-told2 .given .1 in rw (e, g) (c .check-end .ensures)
+is-justified-requires : tie.Need-is-justified-requires Inv-loop μ-loop
+is-justified-requires c κs = (c .before .before .before .before .before .before .before .pre .0, c .before .before .before .before .loop .inv .behind)
+
+refuse-step-requires : tie.Need-refuse-step-requires Inv-loop μ-loop
+refuse-step-requires c κs = omega arith
+
+returns-2 : tie.Need-returns-2 Inv-loop μ-loop
+returns-2 c =
+    let e = c .before .before .before in
+    c .refuse-step .ensures
+    ∙ step-refused _ _ _ _ (e .before .before .before .before .loop .inv) (omega arith) (e .before .before .read-line .ensures) (laid e) (sym (c .before .before .is-justified .ensures) ∙ not-true _ (c .before .if2 .taken))
+
+add-count : tie.Need-add-count Inv-loop μ-loop
+add-count c = omega arith
+
+add-i : tie.Need-add-i Inv-loop μ-loop
+add-i c = omega arith
+
+loop-less : tie.Need-loop-less Inv-loop μ-loop
+loop-less c = omega arith
+
+loop-again : tie.Need-loop-again Inv-loop μ-loop
+loop-again c =
+    let j = c .before .before .before .before .before in
+    let e = j .before in
+    let l = e .before .before .before .before .loop in
+    pass-more _ _ _ _ (l .inv) (omega arith) (e .before .before .read-line .ensures) (laid e) (sym (j .is-justified .ensures) ∙ not-false _ (c .before .before .before .before .if2 .left)) (omega arith) _
+    (⊎-elim (λ w. w .1 ∙ rw (eq-eqb _ _ (w .0 .taken))) (λ w. w .1 ∙ rw (ne-eqb _ _ (w .0 .left), add-zero)) (c .before .before .if3 .came))
+
+check-end-requires : tie.Need-check-end-requires Inv-loop μ-loop
+check-end-requires c κs = omega arith
+
+returns-3 : tie.Need-returns-3 Inv-loop μ-loop
+returns-3 c = c .check-end .ensures ∙ pass-end _ _ _ _ (c .before .before .loop .inv) (omega arith) (omega arith)
 
 pub check-lines-spec : {M : Type 1} → statement M
 check-lines-spec =
     tie.close
     (tie.spec
-    scan-layout-requires
-    enum-known-r
-    enum-told
-    scan-steps-requires
-    enum-known-r-2
-    enum-told-2
-    check-end-requires
+    Inv-loop
+    μ-loop
+    loop-holds
+    read-line-requires
+    is-torn-requires
+    add-t16
+    cast-t17
     returns
+    is-justified-requires
+    refuse-step-requires
     returns-2
+    add-count
+    add-i
+    loop-less
+    loop-again
+    check-end-requires
     returns-3)

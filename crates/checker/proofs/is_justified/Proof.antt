@@ -6,9 +6,6 @@ use Rattle.rules.specs.Steps.{justified}
 use Rattle.checker.proofs.is_justified.Statement.{statement}
 use Rattle.checker.proofs.is_justified.Tie as tie
 
-line-at-requires : tie.Need-line-at-requires
-line-at-requires c κs = search needs
-
 is-table-line-requires : tie.Need-is-table-line-requires
 is-table-line-requires c κs = search needs
 
@@ -17,13 +14,12 @@ is-rule-line-requires c κs = search needs
 
 returns : tie.Need-returns
 unfolding justified
-returns c = rw (← c .before .before .before .line-at .ensures, eq-eqb _ _ (c .before .if1 .taken)) (c .is-table-line .ensures)
+returns c = rw (eq-eqb _ _ (c .before .if1 .taken)) (c .is-table-line .ensures)
 
 returns-2 : tie.Need-returns-2
 unfolding justified
-returns-2 c = rw (← c .before .before .before .line-at .ensures, ne-eqb _ _ (c .before .if1 .left)) (c .is-rule-line .ensures)
+returns-2 c = rw (ne-eqb _ _ (c .before .if1 .left)) (c .is-rule-line .ensures)
 
 pub is-justified-spec : {M : Type 1} → statement M
 is-justified-spec =
-    tie.close
-    (tie.spec line-at-requires is-table-line-requires is-rule-line-requires returns returns-2)
+    tie.close (tie.spec is-table-line-requires is-rule-line-requires returns returns-2)

@@ -29,24 +29,18 @@ returns-4 : tie.Need-returns-4
 unfolding stepFrom
 returns-4 c = let s = c .before .before .before .before .before .before .before in let x = now (s .args .derivation) in rw (fact-there x (s .args .i) (s .args .l .first) (c .before .before .before .if1 .left) (c .before .before .if2 .left), fact-missing x (s .args .i) (s .args .l .second) (c .if4 .taken))
 
-sub-fact-at : tie.Need-sub-fact-at
-sub-fact-at c = search needs
+premise-requires : tie.Need-premise-requires
+premise-requires c κs = search needs
 
-fact-at-requires : tie.Need-fact-at-requires
-fact-at-requires c κs = search needs
-
-sub-fact-at-2 : tie.Need-sub-fact-at-2
-sub-fact-at-2 c = search needs
-
-fact-at-requires-2 : tie.Need-fact-at-requires-2
-fact-at-requires-2 c κs = search needs
+premise-requires-2 : tie.Need-premise-requires-2
+premise-requires-2 c κs = search needs
 
 step-requires : tie.Need-step-requires
 step-requires c κs = search needs
 
 returns-5 : tie.Need-returns-5
 unfolding stepFrom
-returns-5 c = let s = c .before .before .before .before .before .before .before .before .before .before in let x = now (s .args .derivation) in rw (fact-there x (s .args .i) (s .args .l .first) (c .before .before .before .before .before .before .if1 .left) (c .before .before .before .before .before .if2 .left), fact-there x (s .args .i) (s .args .l .second) (c .before .before .before .before .if3 .left) (c .before .before .before .if4 .left), ← c .before .before .fact-at .ensures, ← c .before .fact-at2 .ensures) (c .step .ensures)
+returns-5 c = let s = c .before .before .before .before .before .before .before .before .before .before in let x = now (s .args .derivation) in rw (fact-there x (s .args .i) (s .args .l .first) (c .before .before .before .before .before .before .if1 .left) (c .before .before .before .before .before .if2 .left), fact-there x (s .args .i) (s .args .l .second) (c .before .before .before .before .if3 .left) (c .before .before .before .if4 .left), ← c .before .before .premise .ensures, ← c .before .premise2 .ensures) (c .step .ensures)
 
 pub is-rule-line-spec : {M : Type 1} → statement M
 is-rule-line-spec =
@@ -58,9 +52,7 @@ is-rule-line-spec =
     returns-2
     returns-3
     returns-4
-    sub-fact-at
-    fact-at-requires
-    sub-fact-at-2
-    fact-at-requires-2
+    premise-requires
+    premise-requires-2
     step-requires
     returns-5)
