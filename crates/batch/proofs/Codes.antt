@@ -26,8 +26,8 @@ use Rattle.facts.proofs.Terms.{by-cases}
 use Rattle.table.specs.Judged.{orElse}
 use Rattle.table.specs.Scans.{earns}
 use Rattle.table.specs.Tables.{Table, accepted, refused, lineFact, lineVerdict, sized, tableOf}
-use Rattle.table.proofs.Rows.{sized-says, accepted-size}
-use Rattle.table.proofs.Tables.{Stopped, tableOf-refused, line-refused}
+use Rattle.table.proofs.Rows.{accepted-size}
+use Rattle.table.proofs.Tables.{Stopped, tableOf-refused, line-refused, table-place}
 use Rattle.rules.specs.Paths.{fewest}
 use Rattle.search.specs.Question.{needed, questionFault, asked, answerBy, answerOf, unless, answerFrom, questionAnswer, printedFrom}
 use Rattle.search.proofs.Answered.{fewest-meant}
@@ -58,15 +58,12 @@ earned laid at i Form e = let z : _≡_ {A = ℕ} 0 1 = cc in absurd (omega arit
 earned laid at i Step e = let z : _≡_ {A = ℕ} 0 1 = cc in absurd (omega arith)
 earned laid at i End e = let z : _≡_ {A = ℕ} 0 1 = cc in absurd (omega arith)
 
--- a table's refusal is one of 1 to 6, on one of at most 1,024 lines
-table-refused : (b : List ℕ) (r : Refusal) (place : ℕ) → tableOf b ≡ refused r place → (numberOf r ≤ 6) × (place ≤ 1024)
-table-refused b r place e =
-    ⊎-elim
-    (λ (p : (sized 16 16384 (length b) ≡ false) × (r ≡ Size) × (place ≡ 0)). (rw (p .1) (omega arith), omega (arith, p .2)))
+-- a table's refusal is one of 1 to 6
+table-number : (b : List ℕ) (r : Refusal) (place : ℕ) → tableOf b ≡ refused r place → numberOf r ≤ 6
+table-number b r place e =
+    ⊎-elim (λ (p : (sized 16 16384 (length b) ≡ false) × (r ≡ Size) × (place ≡ 0)). rw (p .1) (omega arith))
     (λ (p : (sized 16 16384 (length b) ≡ true) × Stopped (lineVerdict b) (length b / 16) r place).
-    let s = p .1 in
-    let fits = sized-says 16 16384 (length b) (p .0) in
-    (earned _ (lineFact b) (s .line) r (line-refused b (s .line) r .0 (s .refuses) .here), omega (arith, s .counted, s .within, fits)))
+    let s = p .1 in earned _ (lineFact b) (s .line) r (line-refused b (s .line) r .0 (s .refuses) .here))
     (tableOf-refused b r place .0 e)
 
 -- the fact's own refusals are 3, 4 and 5
@@ -117,7 +114,7 @@ answer-plain table t limit = go (tableOf table) refl
         unfold unless in found-plain limit (fewest facts t) (λ f k. omega (arith, fewest-meant table t facts is f k .1, accepted-size table facts is .1))
 
     go : (T : Table) → tableOf table ≡ T → Plain (codeOf (questionAnswer table t limit (needed 1024)))
-    go (refused r place) is = let p = table-refused table r place is in rw is (refused-plain r place (omega (arith, p .0)) (p .1))
+    go (refused r place) is = rw is (refused-plain r place (omega (arith, table-number table r place is)) (table-place table r place is))
     go (accepted facts) is = rw is (judged facts is (asked t limit (needed 1024)) refl)
 
 -- the first line of a reply reads as number, place and count of the answer, and the number is never 8

@@ -1,8 +1,7 @@
 -- Every answer fits the bits of its number: places are line numbers, and counts are numbers of facts or lines.
 -- Assumes nothing.
 use mathlib.Core.Path.{_≡_, refl}
-use mathlib.Core.Logic.{_⊎_, ⊎-elim}
-use mathlib.Core.Bool.{Bool, true, false, _&&_}
+use mathlib.Core.Bool.{Bool, _&&_}
 use mathlib.Core.Option.{Option, none, some}
 use mathlib.Core.List.{List, [], _∷_}
 use Prim.Native.Nat.{ℕ, _+_, _-_, _*_, _/_, _%_, _≤_, _<_}
@@ -25,9 +24,9 @@ use Rattle.facts.proofs.Terms.{by-cases}
 use Rattle.table.specs.declared.Scan.{Scan}
 use Rattle.table.specs.declared.Scan.the-variants.{Passes, Stops}
 use Rattle.table.specs.Scans.{scan}
-use Rattle.table.specs.Tables.{Table, accepted, refused, rowOf, tableBytes, tableOf, tableOfRow, lineVerdict, rowVerdict, sized, settled}
+use Rattle.table.specs.Tables.{Table, accepted, refused, rowOf, tableBytes, tableOf, tableOfRow, sized, settled}
 use Rattle.table.proofs.Rows.{sized-says, accepted-size, row-size}
-use Rattle.table.proofs.Tables.{Stopped, Refusable, tableOf-refused, tableOfRow-refused, scan-stopped}
+use Rattle.table.proofs.Tables.{table-place, row-place, scan-stopped}
 use Rattle.rules.specs.declared.Line.{Line}
 use Rattle.rules.specs.Graph.{keep}
 use Rattle.rules.specs.Derivations.{tableLines}
@@ -68,24 +67,11 @@ refused-small r place h = record { number = number-small r; place = omega arith;
 
 -- ---- tables
 
-place-small : (fits : Bool) (judge : ℕ → Verdict) (n : ℕ) (r : Refusal) (place : ℕ) → (fits ≡ true → n ≤ 2047) → Refusable fits judge n r place → place ≤ 2047
-place-small fits judge n r place h =
-    ⊎-elim (λ (p : (fits ≡ false) × (r ≡ Size) × (place ≡ 0)). omega (arith, p .2))
-    (λ (p : (fits ≡ true) × Stopped judge n r place). omega (arith, h (p .0), p .1 .counted, p .1 .within))
-
-pub table-place : (b : List ℕ) (r : Refusal) (place : ℕ) → tableOf b ≡ refused r place → place ≤ 2047
-table-place b r place e =
-    place-small (sized 16 16384 (length b)) (lineVerdict b) (length b / 16) r place (λ t. let s = sized-says 16 16384 (length b) t in omega arith) (tableOf-refused b r place .0 e)
-
-row-place : (row : List ℕ) (r : Refusal) (place : ℕ) → tableOfRow row ≡ refused r place → place ≤ 2047
-row-place row r place e =
-    place-small (sized 3 3072 (length row)) (rowVerdict row) (length row / 3) r place (λ t. let s = sized-says 3 3072 (length row) t in omega arith) (tableOfRow-refused row r place .0 e)
-
 -- reading and writing, over any table whose places and facts are few
-settled-small : (content : List Fact → List ℕ) (t : Table) (m : ℕ) → ((r : Refusal) (place : ℕ) → t ≡ refused r place → place ≤ 2047) → ((facts : List Fact) → t ≡ accepted facts → length facts ≤ 1024)
+settled-small : (content : List Fact → List ℕ) (t : Table) (m : ℕ) → ((r : Refusal) (place : ℕ) → t ≡ refused r place → place ≤ 1024) → ((facts : List Fact) → t ≡ accepted facts → length facts ≤ 1024)
     → Small (codeOf (settled content t m))
 unfolding settled
-settled-small content (refused r place) m p f = refused-small r place (p r place refl)
+settled-small content (refused r place) m p f = refused-small r place (omega (arith, p r place refl))
 settled-small content (accepted facts) m p f =
     by-cases (leb (length (content facts)) m)
     (λ e. rw e (record { number = omega arith; place = omega arith; count = omega (arith, f facts refl) }))
@@ -141,7 +127,7 @@ check-small b t x = go (tableOf b) refl
     fact-small (Faulty r) a s = unfold factAnswer in (refused-small r 0 (omega arith))
 
     go : (c : Table) → tableOf b ≡ c → Small (codeOf (tableAnswer c t x))
-    go (refused r place) e = refused-small r place (table-place b r place e)
+    go (refused r place) e = refused-small r place (omega (arith, table-place b r place e))
     go (accepted facts) e = fact-small (faultOf t) (derivationAnswer facts t x) (derivation-small facts t x)
 
 -- ---- the question
@@ -164,7 +150,7 @@ unfolding questionAnswer answerFrom answerOf
 question-small b t limit m = go (tableOf b) refl
   where
     go : (c : Table) → tableOf b ≡ c → Small (codeOf (answerFrom c t limit m))
-    go (refused r place) e = refused-small r place (table-place b r place e)
+    go (refused r place) e = refused-small r place (omega (arith, table-place b r place e))
     go (accepted facts) e =
         unless-small (asked t limit m) (answerOf facts t limit)
         (answer-small limit (fewest facts t) (λ f h. omega (arith, fewest-meant b t facts e f h .1, accepted-size b facts e .1)))

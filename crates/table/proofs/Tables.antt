@@ -6,7 +6,7 @@ use mathlib.Core.Bool.{Bool, true, false, cond}
 use mathlib.Core.List.{List, [], _∷_, _++_, List·Memᴰ, List·Memᴰ·head, List·Memᴰ·tail, List·Memᴰ·not-nil, List·Memᴰ·cases-cons}
 use Prim.Native.Nat.{ℕ, zero, suc, _+_, _-_, _*_, _/_, _≤_, _<_}
 use native.Mathlib.Omega.{arith}
-use native.Mathlib.Nat.{add-zero, zero-add}
+use native.Mathlib.Nat.{add-zero, zero-add, div-le-of-le-mul}
 use lib.ListN.{length, getD, drop, drop-of-length-le, take-append-drop, List·getD-append}
 use lib.Seq.{drop-drop}
 use lib.Dec.{T}
@@ -25,7 +25,7 @@ use Rattle.table.specs.declared.Scan.the-variants.{Passes, Stops}
 use Rattle.table.specs.Scans.{earns, tried, firstEarned, onward, scan}
 use Rattle.table.specs.Tables as tables
 use Rattle.table.specs.Tables.{terms, rowOf, tableBytes, lineFact, rowFact, accepted, refused, sized, meant, lineVerdict, tableScan, tableOf, rowVerdict, rowScan, tableOfRow, allFormed}
-use Rattle.table.proofs.Rows.{row-length, bytes-length, sized-fits, loaded-all, loaded-accepted, passes-size, accepted-scan, accepted-size, row-scan, row-size, row-facts, row-part}
+use Rattle.table.proofs.Rows.{row-length, bytes-length, sized-fits, sized-says, loaded-all, loaded-accepted, passes-size, accepted-scan, accepted-size, row-scan, row-size, row-facts, row-part}
 use Rattle.table.proofs.Lists.{passes-says, says-passes, formed-at}
 
 -- ---- lines of bytes
@@ -253,6 +253,19 @@ tableOfRow-refused row r place =
     let m = meant-refused (rowFact row) (rowScan row) r place in
     let s = refused-by (sized 3 3072 (length row)) (rowVerdict row) (length row / 3) r place in
     (λ e. s .0 (m .0 e), λ h. m .1 (s .1 h))
+
+-- a refusal's place is 0 or the number of one of at most 1,024 lines
+place-few : (k size : ℕ) (judge : ℕ → Verdict) (r : Refusal) (place : ℕ) → Refusable (sized k (k * 1024) size) judge (size / k) r place → place ≤ 1024
+place-few k size judge r place =
+    ⊎-elim (λ (p : (sized k (k * 1024) size ≡ false) × (r ≡ Size) × (place ≡ 0)). omega (arith, p .2))
+    (λ (p : (sized k (k * 1024) size ≡ true) × Stopped judge (size / k) r place).
+    omega (arith, div-le-of-le-mul k (sized-says k (k * 1024) size (p .0) .1), p .1 .counted, p .1 .within))
+
+pub table-place : (b : List ℕ) (r : Refusal) (place : ℕ) → tableOf b ≡ refused r place → place ≤ 1024
+table-place b r place e = place-few 16 (length b) (lineVerdict b) r place (tableOf-refused b r place .0 e)
+
+pub row-place : (row : List ℕ) (r : Refusal) (place : ℕ) → tableOfRow row ≡ refused r place → place ≤ 1024
+row-place row r place e = place-few 3 (length row) (rowVerdict row) r place (tableOfRow-refused row r place .0 e)
 
 -- ---- a row into which facts were put
 
