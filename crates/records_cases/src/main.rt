@@ -4,12 +4,10 @@ use facts::Answer;
 use facts::Fact;
 use libc::STDIN_FILENO;
 use libc::STDOUT_FILENO;
-ghost use mathlib.Core.Path.{_≡_};
 ghost use Prim.Native.Nat.{_+_, _≤_, _<_};
 ghost use lib.ListN.{length};
-ghost use Rattle.io.specs.Counts.{Counts};
 
-// The fields and bytes of a case's first line, the bytes of an answer, and those of all cases and all answers.
+// The fields and bytes of a case's first line, the bytes of an answer, and the most bytes of all cases.
 const HEAD_FIELDS: usize = 2;
 
 const HEAD_BYTES: usize = 11;
@@ -17,8 +15,6 @@ const HEAD_BYTES: usize = 11;
 const ANSWER_BYTES: usize = 21;
 
 const INPUT_BYTES: usize = 110000;
-
-const OUTPUT_BYTES: usize = 2100;
 
 // The bytes of a table's line, and the records: one more than a table has lines.
 const LINE_BYTES: usize = 16;
@@ -34,14 +30,12 @@ struct Filled {
     facts: [Fact; RECORDS],
 }
 
+// Memory for all cases.
 fn input_space() -> [u8; INPUT_BYTES] {
     [0u8; INPUT_BYTES]
 }
 
-fn output_space() -> [u8; OUTPUT_BYTES] {
-    [0u8; OUTPUT_BYTES]
-}
-
+// What a record holds before a table is read.
 fn fact_before() -> Fact {
     Fact {
         subject: BEFORE,
@@ -50,6 +44,7 @@ fn fact_before() -> Fact {
     }
 }
 
+// All the records before a table is read.
 fn records_before() -> [Fact; RECORDS] {
     let fact = fact_before();
     [fact; RECORDS]
@@ -80,6 +75,7 @@ fn fact_at(table: &[u8], at: usize) -> Fact
     }
 }
 
+// Two facts are the same.
 fn is_same(a: Fact, b: Fact) -> bool {
     (a.subject == b.subject) & (a.predicate == b.predicate) & (a.object == b.object)
 }
@@ -109,10 +105,9 @@ fn are_due(table: &[u8], count: usize, facts: [Fact; RECORDS]) -> bool {
     true
 }
 
-// Reads a table into so many records and writes the answer into the front of the output.
-fn put_answer(table: &[u8], lent: usize, out: &mut [u8])
-    requires { ⌜ (lent ≤ 1025) × (21 ≤ length (now out)) ⌝ }
-    ensures { λ _. ⌜ length (now (out .exit)) ≡ length (now (out .entry)) ⌝ }
+// Reads a table into so many records, and prints the answer and whether every record is as it must be.
+fn read_case(table: &[u8], lent: usize)
+    requires { ⌜ lent ≤ 1025 ⌝ }
 {
     let filled = read_some(table, lent, records_before());
     let answer = filled.answer;
@@ -121,55 +116,44 @@ fn put_answer(table: &[u8], lent: usize, out: &mut [u8])
     let count = code.count;
     let due = are_due(table, count as usize, facts);
     let numbers = [code.number, code.place, count, due as u32];
-    columns::put_line(&numbers, out);
+    let mut line = [0u8; ANSWER_BYTES];
+    columns::put_line(&numbers, &mut line);
+    io::write_all(STDOUT_FILENO, &line);
 }
 
-// Runs the case at a place and says where it ends. If no whole case stands there, that is the place itself.
-fn run_case(input: &[u8], at: usize, out: &mut [u8]) -> usize
-    requires { ⌜ (at ≤ length (now input)) × (21 ≤ length (now out)) ⌝ }
-    ensures { λ r. ⌜ (at ≤ r) × (r ≤ length (now (input .entry))) × (length (now (out .exit)) ≡ length (now (out .entry))) ⌝ }
+// Runs the case at a place, and gives where the next begins; what is no case ends the run.
+fn run_case(input: &[u8], at: usize) -> usize
+    requires { ⌜ at + 11 ≤ length (now input) ⌝ }
+    ensures { λ r. ⌜ (at < r) × (r ≤ length (now (input .entry))) ⌝ }
 {
-    if input.len() - at < HEAD_BYTES {
-        return at;
-    }
+    let end = input.len();
     if !columns::is_laid_out(HEAD_FIELDS, input, at) {
-        return at;
+        return end;
     }
     let table = at + HEAD_BYTES;
     let table_bytes = columns::number_at(input, at) as usize;
-    if input.len() - table < table_bytes {
-        return at;
+    if end - table < table_bytes {
+        return end;
     }
     let lent = columns::number_at(input, at + 5) as usize;
     if RECORDS < lent {
-        return at;
+        return end;
     }
-    let end = table + table_bytes;
-    put_answer(&input[table..end], lent, out);
-    end
+    let next = table + table_bytes;
+    read_case(&input[table..next], lent);
+    next
 }
 
-// Runs the cases one after the other and says how many bytes their answers have.
-fn run_cases(input: &[u8], out: &mut [u8]) -> usize
-    ensures { λ r. ⌜ Counts r (now (out .exit)) ⌝ }
-{
+// Runs the cases one after the other.
+fn run(input: &[u8]) {
     let mut at = 0;
-    let mut to = 0;
-    while ANSWER_BYTES <= out.len() - to {
-        let end = run_case(input, at, &mut out[to..]);
-        if end == at {
-            return to;
-        }
-        at = end;
-        to += ANSWER_BYTES;
+    while HEAD_BYTES <= input.len() - at {
+        at = run_case(input, at);
     }
-    to
 }
 
 fn main() {
     let mut input = input_space();
     let n = io::read_full(STDIN_FILENO, &mut input);
-    let mut out = output_space();
-    let m = run_cases(&input[..n], &mut out);
-    io::write_all(STDOUT_FILENO, &out[..m]);
+    run(&input[..n]);
 }

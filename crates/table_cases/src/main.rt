@@ -174,7 +174,7 @@ fn write_case(lines: &[u8], room: usize, size: usize)
     io::write_all(STDOUT_FILENO, &out[0..bytes]);
 }
 
-// Runs the case at a place, and answers where the next begins; what is no case ends the run.
+// Runs the case at a place, and gives where the next begins; what is no case ends the run.
 fn run_case(input: &[u8], at: usize) -> usize
     requires { ⌜ at + 21 ≤ length (now input) ⌝ }
     ensures { λ r. ⌜ (at < r) × (r ≤ length (now (input .entry))) ⌝ }
