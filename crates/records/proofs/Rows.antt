@@ -48,7 +48,8 @@ module _ {M : Type 1} (𝓤 : URA M) (H : Heap 𝓤) (A : Atoms 𝓤) (W : Given
   Local v = Is (Array R n) xs (v ∷ [])
 
   -- and back
-  pub array-out : ent 𝓤 (sem 𝓤 H A (arr-parts (shares R) n .part fullShare xs b 0)) (ex 𝓤 (λ (v : Val). guard 𝓤 (Is (Array R n) xs (v ∷ [])) (sem 𝓤 H A (fat fullShare (tyArray (lone (R .mir)) n) b 0 v))))
+  pub array-out : ent 𝓤 (sem 𝓤 H A (arr-parts (shares R) n .part fullShare xs b 0))
+      (ex 𝓤 (λ (v : Val). guard 𝓤 (Is (Array R n) xs (v ∷ [])) (sem 𝓤 H A (fat fullShare (tyArray (lone (R .mir)) n) b 0 v))))
   unfolding partOf
   array-out =
       qed W (‵ (arr-parts (shares R) n .part fullShare xs b 0) ∷ []) ∵
@@ -80,5 +81,6 @@ module _ {M : Type 1} (𝓤 : URA M) (H : Heap 𝓤) (A : Atoms 𝓤) (W : Given
   zeros-in b = array-in 𝓤 H A W u32 n (replicate n 0) b tt (uint-makes 𝓤 H A W w32) (zeros n) (zeros-are n)
 
 -- ---- a constant that is written whole, as a length of 3,072
-pub big-lit : {M : Type 1} {𝓤 : URA M} {H : Heap 𝓤} {A : Atoms 𝓤} {K : Type 0} {W : Given 𝓤 H A} {Γ : List (Item 𝓤)} {E : Env 𝓤 H} → K → {w : Width} {n : ℕ} → Fits w n → Opd K W Γ E (intBig w n) (vint w n)
+pub big-lit : {M : Type 1} {𝓤 : URA M} {H : Heap 𝓤} {A : Atoms 𝓤} {K : Type 0} {W : Given 𝓤 H A} {Γ : List (Item 𝓤)} {E : Env 𝓤 H} → K → {w : Width} {n : ℕ}
+    → Fits w n → Opd K W Γ E (intBig w n) (vint w n)
 big-lit {𝓤 = 𝓤} t {w} {n} z = record { go = λ Kt h. via 𝓤 (Kt (vint w n)) h (guardI 𝓤 (Fits w n) (Kt (vint w n)) z) }

@@ -24,7 +24,8 @@ use ghost.Atoms.{Atoms}
 use contract.Monad.{Fun}
 use contract.Running.{givenOf, tables, tablesOf}
 use types.Kit.{_$_, Given, Item, ‵, _⊛_, ⋆, anyQ, atRet, _∵_, !, qed, by, move, keep, drop, split, join, rewrite, fsplit, fjoin, feqI, suffices, frame, done}
-use types.Run.{look, init, store, store-raw, forget, stop, hop, fld, from, load, lit, unit-lit, of-opd, bin, and-then, no-more, assigns, assigns-last, stays, leaves-loop, returns, enter, exec, alloc1, alloc0, params1, pass1, pass0, free1, free0}
+use types.Run.{look, init, store, store-raw, forget, stop, hop, fld, from, load, lit, unit-lit, of-opd, bin, and-then, no-more, assigns, assigns-last, stays}
+use types.Run.{leaves-loop, returns, enter, exec, alloc1, alloc0, params1, pass1, pass0, free1, free0}
 use types.Part.{whole, sub, look-in, agg}
 use types.Share.{arr-parts}
 use sound.Loop.{loop-rule}
@@ -120,7 +121,8 @@ fit ws fs n i h₁ h₂ r₁ r₂ s = record {
   next = omega arith;
 }
 
-module _ {M : Type 1} (𝓤 : URA M) (H : Heap 𝓤) (A : Atoms 𝓤) (W : Given 𝓤 H A) (mem : Memory → SProp 𝓤) (run : Routine → Fun 𝓤) (κ₁ κ₂ : Lft) (q₁ q₂ : Share) (b₁ o₁ b o : ℕ) (γ₁ γ : GName) (ws : List ℕ) (fs : List Fact) (n : ℕ)
+module _ {M : Type 1} (𝓤 : URA M) (H : Heap 𝓤) (A : Atoms 𝓤) (W : Given 𝓤 H A) (mem : Memory → SProp 𝓤) (run : Routine → Fun 𝓤) (κ₁ κ₂ : Lft) (q₁ q₂ : Share)
+    (b₁ o₁ b o : ℕ) (γ₁ γ : GName) (ws : List ℕ) (fs : List Fact) (n : ℕ)
     (h₁ : 3 * n ≤ length ws) (h₂ : n ≤ length fs) where
   abbrev x₁ : RefT (List ℕ)
   x₁ = record { ptr = (b₁, o₁); name = γ₁; now = ws }
@@ -163,11 +165,17 @@ module _ {M : Type 1} (𝓤 : URA M) (H : Heap 𝓤) (A : Atoms 𝓤) (W : Given
   abbrev Post : Val → SProp 𝓤
   Post = walkOf 𝓤 H A fill′.ended stayed (fill′.clauses 𝓤 H A mem run) .post (((κ₁, (κ₂, tt)), (q₁, (q₂, tt)), tt, a, vals), tt)
 
+  -- what is left where the body ends
+  abbrev Rest : List (Item 𝓤)
+  Rest = ‵ (fobs γ (codedHoleys T.the-row .code (heres T.the-row zs))) ∷ ‵ (fbor κ₂ (Held T.the-row (length zs) b o γ)) ∷ ‵ (flft κ₂ q₂) ∷ ‵ (flft κ₁ q₁)
+      ∷ ‵ X₂ ∷ ‵ X₁ ∷ ‵ F₁ ∷ ‵ R₂ ∷ []
+
   module _ (𝓣 : Tables 𝓤 H) (room₁ : Room u32 (length ws)) (room : Room T.the-row (length fs)) (gn : n < 2 ^ 64) where
-    exits : ent 𝓤 (⋆ 𝓤 H A (‵ (fobs γ (codedHoleys T.the-row .code (heres T.the-row zs))) ∷ ‵ (fbor κ₂ (Held T.the-row (length zs) b o γ)) ∷ ‵ (flft κ₂ q₂) ∷ ‵ (flft κ₁ q₁) ∷ ‵ X₂ ∷ ‵ X₁ ∷ ‵ F₁ ∷ ‵ R₂ ∷ [])) (Post vunit)
+    exits : ent 𝓤 (⋆ 𝓤 H A Rest) (Post vunit)
     exits =
-        qed W (‵ (fobs γ (codedHoleys T.the-row .code (heres T.the-row zs))) ∷ ‵ (fbor κ₂ (Held T.the-row (length zs) b o γ)) ∷ ‵ (flft κ₂ q₂) ∷ ‵ (flft κ₁ q₁) ∷ ‵ X₂ ∷ ‵ X₁ ∷ ‵ F₁ ∷ ‵ R₂ ∷ []) ∵
-        suffices ! _ (ends-at 𝓤 H A fill′.ended stayed (fill′.clauses 𝓤 H A mem run) W (((κ₁, (κ₂, tt)), (q₁, (q₂, tt)), tt, a, vals), tt) vunit tt (tt, (zs, (tt, tt))) (tt, (same, (tt, tt)))) $ says ! refl $
+        qed W Rest ∵
+        suffices ! _ (ends-at 𝓤 H A fill′.ended stayed (fill′.clauses 𝓤 H A mem run) W (((κ₁, (κ₂, tt)), (q₁, (q₂, tt)), tt, a, vals), tt) vunit tt (tt, (zs, (tt, tt))) (tt, (same, (tt, tt)))) $
+        says ! refl $
         -- [true; obs; the borrow; κ₂'s token; κ₁'s; X₂; X₁; F₁; R₂]
         nothing ! $ move ! (3 ∷ 0 ∷ []) $ join ! $ move ! (3 ∷ 0 ∷ []) $ join ! $ frame ! $
         -- [obs; the borrow; X₂; X₁; F₁; R₂]
@@ -184,11 +192,21 @@ module _ {M : Type 1} (𝓤 : URA M) (H : Heap 𝓤) (A : Atoms 𝓤) (W : Given
       Λ = 𝓣 .Λ
 
       abbrev En : Env 𝓤 H
-      En = (tyUnit, l₀) ∷ (rowTy, l₁) ∷ (factsTy, l₂) ∷ (word, l₃) ∷ (word, l₄) ∷ (word, l₅) ∷ (tyBool, l₆) ∷ (word, l₇) ∷ (tyPtr, l₈) ∷ (num, l₉) ∷ (word, l₁₀) ∷ (word, l₁₁) ∷ (tyPtr, l₁₂) ∷ (num, l₁₃) ∷ (word, l₁₄) ∷ (word, l₁₅) ∷ (tyPtr, l₁₆) ∷ (num, l₁₇) ∷ (T′.mir, l₁₈) ∷ (word, l₁₉) ∷ (tyPtr, l₂₀) ∷ []
+      En = (tyUnit, l₀) ∷ (rowTy, l₁) ∷ (factsTy, l₂) ∷ (word, l₃) ∷ (word, l₄) ∷ (word, l₅) ∷ (tyBool, l₆) ∷ (word, l₇) ∷ (tyPtr, l₈) ∷ (num, l₉) ∷ (word, l₁₀)
+          ∷ (word, l₁₁) ∷ (tyPtr, l₁₂) ∷ (num, l₁₃) ∷ (word, l₁₄) ∷ (word, l₁₅) ∷ (tyPtr, l₁₆) ∷ (num, l₁₇) ∷ (T′.mir, l₁₈) ∷ (word, l₁₉) ∷ (tyPtr, l₂₀) ∷ []
 
       -- i records are filled
       abbrev At : ℕ → List (Item 𝓤)
-      At i = ‵ (row T.the-row fullShare (filled i ws fs) b o) ∷ ‵ (row u32 q′ ws b₁ o₁) ∷ ‵ (fat fullShare word l₄ 0 (vint w64 i)) ∷ ‵ (froom word l₅ 0) ∷ ‵ (froom tyBool l₆ 0) ∷ ‵ (froom word l₇ 0) ∷ ‵ (froom tyPtr l₈ 0) ∷ ‵ (froom num l₉ 0) ∷ ‵ (froom word l₁₀ 0) ∷ ‵ (froom word l₁₁ 0) ∷ ‵ (froom tyPtr l₁₂ 0) ∷ ‵ (froom num l₁₃ 0) ∷ ‵ (froom word l₁₄ 0) ∷ ‵ (froom word l₁₅ 0) ∷ ‵ (froom tyPtr l₁₆ 0) ∷ ‵ (froom num l₁₇ 0) ∷ ‵ (froom T′.mir l₁₈ 0) ∷ ‵ (froom word l₁₉ 0) ∷ ‵ (froom tyPtr l₂₀ 0) ∷ ‵ (fat fullShare rowTy l₁ 0 (sliceVal (b₁, o₁) (length ws))) ∷ ‵ (fat fullShare factsTy l₂ 0 (sliceVal (b, o) (length fs))) ∷ ‵ (fat fullShare word l₃ 0 (vint w64 n)) ∷ ‵ (froom tyUnit l₀ 0) ∷ ‵ (fobor κ₂ q₂ (Held T.the-row (length fs) b o γ)) ∷ ‵ (fobs γ (codedHoleys T.the-row .code (heres T.the-row fs))) ∷ ‵ (fauth γ (codedHoleys T.the-row .code (heres T.the-row fs))) ∷ ‵ (fobor κ₁ q₁ (arr-parts (shares u32) (length ws) .part q′ ws b₁ o₁)) ∷ ‵ X₂ ∷ ‵ X₁ ∷ ‵ F₁ ∷ ‵ R₂ ∷ ‵ (fdies tyUnit l₀) ∷ ‵ (fdies rowTy l₁) ∷ ‵ (fdies factsTy l₂) ∷ ‵ (fdies word l₃) ∷ ‵ (fdies word l₄) ∷ ‵ (fdies word l₅) ∷ ‵ (fdies tyBool l₆) ∷ ‵ (fdies word l₇) ∷ ‵ (fdies tyPtr l₈) ∷ ‵ (fdies num l₉) ∷ ‵ (fdies word l₁₀) ∷ ‵ (fdies word l₁₁) ∷ ‵ (fdies tyPtr l₁₂) ∷ ‵ (fdies num l₁₃) ∷ ‵ (fdies word l₁₄) ∷ ‵ (fdies word l₁₅) ∷ ‵ (fdies tyPtr l₁₆) ∷ ‵ (fdies num l₁₇) ∷ ‵ (fdies T′.mir l₁₈) ∷ ‵ (fdies word l₁₉) ∷ ‵ (fdies tyPtr l₂₀) ∷ []
+      At i = ‵ (row T.the-row fullShare (filled i ws fs) b o) ∷ ‵ (row u32 q′ ws b₁ o₁) ∷ ‵ (fat fullShare word l₄ 0 (vint w64 i)) ∷ ‵ (froom word l₅ 0)
+          ∷ ‵ (froom tyBool l₆ 0) ∷ ‵ (froom word l₇ 0) ∷ ‵ (froom tyPtr l₈ 0) ∷ ‵ (froom num l₉ 0) ∷ ‵ (froom word l₁₀ 0) ∷ ‵ (froom word l₁₁ 0)
+          ∷ ‵ (froom tyPtr l₁₂ 0) ∷ ‵ (froom num l₁₃ 0) ∷ ‵ (froom word l₁₄ 0) ∷ ‵ (froom word l₁₅ 0) ∷ ‵ (froom tyPtr l₁₆ 0) ∷ ‵ (froom num l₁₇ 0)
+          ∷ ‵ (froom T′.mir l₁₈ 0) ∷ ‵ (froom word l₁₉ 0) ∷ ‵ (froom tyPtr l₂₀ 0) ∷ ‵ (fat fullShare rowTy l₁ 0 (sliceVal (b₁, o₁) (length ws)))
+          ∷ ‵ (fat fullShare factsTy l₂ 0 (sliceVal (b, o) (length fs))) ∷ ‵ (fat fullShare word l₃ 0 (vint w64 n)) ∷ ‵ (froom tyUnit l₀ 0)
+          ∷ ‵ (fobor κ₂ q₂ (Held T.the-row (length fs) b o γ)) ∷ ‵ (fobs γ (codedHoleys T.the-row .code (heres T.the-row fs)))
+          ∷ ‵ (fauth γ (codedHoleys T.the-row .code (heres T.the-row fs))) ∷ ‵ (fobor κ₁ q₁ (arr-parts (shares u32) (length ws) .part q′ ws b₁ o₁)) ∷ ‵ X₂ ∷ ‵ X₁
+          ∷ ‵ F₁ ∷ ‵ R₂ ∷ ‵ (fdies tyUnit l₀) ∷ ‵ (fdies rowTy l₁) ∷ ‵ (fdies factsTy l₂) ∷ ‵ (fdies word l₃) ∷ ‵ (fdies word l₄) ∷ ‵ (fdies word l₅)
+          ∷ ‵ (fdies tyBool l₆) ∷ ‵ (fdies word l₇) ∷ ‵ (fdies tyPtr l₈) ∷ ‵ (fdies num l₉) ∷ ‵ (fdies word l₁₀) ∷ ‵ (fdies word l₁₁) ∷ ‵ (fdies tyPtr l₁₂)
+          ∷ ‵ (fdies num l₁₃) ∷ ‵ (fdies word l₁₄) ∷ ‵ (fdies word l₁₅) ∷ ‵ (fdies tyPtr l₁₆) ∷ ‵ (fdies num l₁₇) ∷ ‵ (fdies T′.mir l₁₈) ∷ ‵ (fdies word l₁₉) ∷ ‵ (fdies tyPtr l₂₀) ∷ []
 
       abbrev Inv : ℕ → SProp 𝓤
       Inv t = ex 𝓤 (λ (i : ℕ). guard 𝓤 (i + t ≡ n) (⋆ 𝓤 H A (At i)))
@@ -229,16 +247,23 @@ module _ {M : Type 1} (𝓤 : URA M) (H : Heap 𝓤) (A : Atoms 𝓤) (W : Given
           elem-out ! u32 (Is u32) (shows 𝓤 H A u32) (uint-vals w32) (uint-tells w32) q′ ws (3 * i + 2) 0 b₁ o₁ (f .i2) (λ g₂.
           assigns ! (of-opd ! (load ! (from ! (hop ! (look ! 16 refl) (stop !))) (look ! 0 refl))) (from ! (stop !)) (init ! 17 refl (tt, record { fits = g₂ .1 })) $
           elem-back ! u32 q′ ws (3 * i + 2) 0 (vint w32 (getD ws (3 * i + 2) 0) ∷ []) b₁ o₁ (f .i2) $
-          assigns ! (agg ! (and-then ! (load ! (from ! (stop !)) (look ! 7 refl)) (and-then ! (load ! (from ! (stop !)) (look ! 11 refl)) (and-then ! (load ! (from ! (stop !)) (look ! 15 refl)) (no-more !))))) (from ! (stop !)) (init ! 16 refl (tt, (record { fits = g₀ .1 }, (record { fits = g₁ .1 }, (record { fits = g₂ .1 }, tt))))) $
+          assigns ! (agg ! (and-then ! (load ! (from ! (stop !)) (look ! 7 refl)) (and-then ! (load ! (from ! (stop !)) (look ! 11 refl))
+          (and-then ! (load ! (from ! (stop !)) (look ! 15 refl)) (no-more !))))) (from ! (stop !))
+          (init ! 16 refl (tt, (record { fits = g₀ .1 }, (record { fits = g₁ .1 }, (record { fits = g₂ .1 }, tt))))) $
           assigns ! (bin ! (load ! (from ! (stop !)) (look ! 2 refl)) (lit ! tt) (record { fits = f .w })) (from ! (stop !)) (init ! 17 refl (tt, record { fits = f .w })) $
           assigns ! (bin ! (load ! (from ! (fld ! refl (stop !))) (look-in ! 20 (sub ! 0 refl (whole !)))) (load ! (from ! (stop !)) (look ! 17 refl)) tt) (from ! (stop !)) (init ! 18 refl (tt, tt)) $
           rewrite ! 18 (λ (p : ℕ). ‵ (fat fullShare tyPtr l₂₀ 0 (vptr b p))) (sym (place-is 12 o i)) refl $
           move ! (1 ∷ []) $
-          elem-out ! T.the-row (Is T.the-row) (shows 𝓤 H A T.the-row) (LL.vals T.the-type T′.the-laws) (LL.tells T.the-type T′.the-laws) fullShare (filled i ws fs) i (rowFact ws i) b o (f .inside) (λ _.
-          assigns ! (of-opd ! (load ! (from ! (stop !)) (look ! 18 refl))) (from ! (hop ! (look ! 20 refl) (stop !))) (store-raw ! 0 refl (LL.lawful T.the-type T′.the-laws 𝓤 H A W .typed (rowFact ws i) (mach i ∷ []) (made i (g₀ .1) (g₁ .1) (g₂ .1)) .0)) $
-          move ! (1 ∷ []) $ drop ! $ owned ! T.the-row (Is T.the-row) (LL.makes T.the-type T′.the-plain 𝓤 H A) (rowFact ws i) _ (made i (g₀ .1) (g₁ .1) (g₂ .1)) $ move ! (1 ∷ 0 ∷ []) $ elem-put ! T.the-row fullShare (filled i ws fs) i (rowFact ws i) (mach i ∷ []) b o (f .inside) $ rewrite ! 0 (λ (l : List Fact). ‵ (row T.the-row fullShare l b o)) (over-more (rowFact ws) fs i (omega arith)) refl $
+          elem-out ! T.the-row (Is T.the-row) (shows 𝓤 H A T.the-row) (LL.vals T.the-type T′.the-laws) (LL.tells T.the-type T′.the-laws) fullShare
+          (filled i ws fs) i (rowFact ws i) b o (f .inside) (λ _.
+          assigns ! (of-opd ! (load ! (from ! (stop !)) (look ! 18 refl))) (from ! (hop ! (look ! 20 refl) (stop !)))
+          (store-raw ! 0 refl (LL.lawful T.the-type T′.the-laws 𝓤 H A W .typed (rowFact ws i) (mach i ∷ []) (made i (g₀ .1) (g₁ .1) (g₂ .1)) .0)) $
+          move ! (1 ∷ []) $ drop ! $ owned ! T.the-row (Is T.the-row) (LL.makes T.the-type T′.the-plain 𝓤 H A) (rowFact ws i) _ (made i (g₀ .1) (g₁ .1) (g₂ .1)) $
+          move ! (1 ∷ 0 ∷ []) $ elem-put ! T.the-row fullShare (filled i ws fs) i (rowFact ws i) (mach i ∷ []) b o (f .inside) $
+          rewrite ! 0 (λ (l : List Fact). ‵ (row T.the-row fullShare l b o)) (over-more (rowFact ws) fs i (omega arith)) refl $
           assigns-last ! (bin ! (load ! (from ! (stop !)) (look ! 2 refl)) (lit ! tt) (record { fits = f .next })) (from ! (stop !)) (store ! 2 refl (tt, record { fits = f .next })) $
-          forget ! 3 refl $ forget ! 4 refl $ forget ! 5 refl $ forget ! 6 refl $ forget ! 7 refl $ forget ! 8 refl $ forget ! 9 refl $ forget ! 10 refl $ forget ! 11 refl $ forget ! 12 refl $ forget ! 13 refl $ forget ! 14 refl $ forget ! 15 refl $ forget ! 16 refl $ forget ! 17 refl $ forget ! 18 refl $
+          forget ! 3 refl $ forget ! 4 refl $ forget ! 5 refl $ forget ! 6 refl $ forget ! 7 refl $ forget ! 8 refl $ forget ! 9 refl $ forget ! 10 refl $
+          forget ! 11 refl $ forget ! 12 refl $ forget ! 13 refl $ forget ! 14 refl $ forget ! 15 refl $ forget ! 16 refl $ forget ! 17 refl $ forget ! 18 refl $
           rewrite ! 2 (λ (j : ℕ). ‵ (fat fullShare word l₄ 0 (vint w64 j))) (add-one i) refl $ by ! k))))
 
       -- the turn that leaves the loop, and the rest of the body
@@ -310,8 +335,11 @@ module _ {M : Type 1} (𝓤 : URA M) (H : Heap 𝓤) (A : Atoms 𝓤) (W : Given
   walk 𝓣 room₁ room gn =
       qed W ((‵ (flft κ₁ q₁) ⊛ ‵ (flft κ₂ q₂) ⊛ ‵ ftrue) ∷ ‵ (owns (ShrSlice (named 0) κ₁ u32 ∷ MutSlice (named 1) κ₂ T.the-row ∷ usize ∷ []) a vals) ∷ []) ∵
       enter ! (𝓣 .C) (𝓣 .Λ) code.function (sliceVal (b₁, o₁) (length ws) ∷ sliceVal (b, o) (length fs) ∷ vint w64 n ∷ []) _ $
-      alloc1 ! (λ l₀. alloc1 ! (λ l₁. alloc1 ! (λ l₂. alloc1 ! (λ l₃. alloc1 ! (λ l₄. alloc1 ! (λ l₅. alloc1 ! (λ l₆. alloc1 ! (λ l₇. alloc1 ! (λ l₈. alloc1 ! (λ l₉. alloc1 ! (λ l₁₀. alloc1 ! (λ l₁₁. alloc1 ! (λ l₁₂. alloc1 ! (λ l₁₃. alloc1 ! (λ l₁₄. alloc1 ! (λ l₁₅. alloc1 ! (λ l₁₆. alloc1 ! (λ l₁₇. alloc1 ! (λ l₁₈. alloc1 ! (λ l₁₉. alloc1 ! (λ l₂₀. alloc0 ! $ params1 ! $
-      pass1 ! (init ! 38 refl (tt, (tt, (record { fits = room₁ .0 }, tt)))) $ pass1 ! (init ! 36 refl (tt, (tt, (record { fits = room .0 }, tt)))) $ pass1 ! (init ! 34 refl (tt, record { fits = gn })) $ pass0 ! $
+      alloc1 ! (λ l₀. alloc1 ! (λ l₁. alloc1 ! (λ l₂. alloc1 ! (λ l₃. alloc1 ! (λ l₄. alloc1 ! (λ l₅. alloc1 ! (λ l₆. alloc1 ! (λ l₇. alloc1 ! (λ l₈.
+      alloc1 ! (λ l₉. alloc1 ! (λ l₁₀. alloc1 ! (λ l₁₁. alloc1 ! (λ l₁₂. alloc1 ! (λ l₁₃. alloc1 ! (λ l₁₄. alloc1 ! (λ l₁₅. alloc1 ! (λ l₁₆. alloc1 ! (λ l₁₇.
+      alloc1 ! (λ l₁₈. alloc1 ! (λ l₁₉. alloc1 ! (λ l₂₀. alloc0 ! $ params1 ! $
+      pass1 ! (init ! 38 refl (tt, (tt, (record { fits = room₁ .0 }, tt)))) $ pass1 ! (init ! 36 refl (tt, (tt, (record { fits = room .0 }, tt)))) $
+      pass1 ! (init ! 34 refl (tt, record { fits = gn })) $ pass0 ! $
       assigns ! (of-opd ! (lit ! tt)) (from ! (stop !)) (init ! 32 refl (tt, record { fits = lit< tt })) $
       move ! (43 ∷ []) $
       fsplit ! $ fsplit ! $ move ! (1 ∷ []) $ fsplit ! $
@@ -325,7 +353,9 @@ module _ {M : Type 1} (𝓤 : URA M) (H : Heap 𝓤) (A : Atoms 𝓤) (W : Given
       opens-slice ! tt T.the-row fs b o $
       move ! (9 ∷ 5 ∷ []) $
       looks-slice ! tt u32 (Is u32) (shows 𝓤 H A u32) (uint-vals w32) (uint-tells w32) (uint-copy 𝓤 H A W w32) ws b₁ o₁ (λ q′.
-      keep ! (3 ∷ 0 ∷ 44 ∷ 42 ∷ 40 ∷ 38 ∷ 36 ∷ 34 ∷ 32 ∷ 30 ∷ 28 ∷ 26 ∷ 24 ∷ 22 ∷ 20 ∷ 18 ∷ 16 ∷ 14 ∷ 12 ∷ 50 ∷ 48 ∷ 46 ∷ 52 ∷ 4 ∷ 5 ∷ 6 ∷ 1 ∷ 2 ∷ 10 ∷ 11 ∷ 9 ∷ 53 ∷ 51 ∷ 49 ∷ 47 ∷ 45 ∷ 43 ∷ 41 ∷ 39 ∷ 37 ∷ 35 ∷ 33 ∷ 31 ∷ 29 ∷ 27 ∷ 25 ∷ 23 ∷ 21 ∷ 19 ∷ 17 ∷ 15 ∷ 13 ∷ []) $ by ! (loops 𝓣 room₁ room gn q′ l₀ l₁ l₂ l₃ l₄ l₅ l₆ l₇ l₈ l₉ l₁₀ l₁₁ l₁₂ l₁₃ l₁₄ l₁₅ l₁₆ l₁₇ l₁₈ l₁₉ l₂₀)))))))))))))))))))))))
+      keep ! (3 ∷ 0 ∷ 44 ∷ 42 ∷ 40 ∷ 38 ∷ 36 ∷ 34 ∷ 32 ∷ 30 ∷ 28 ∷ 26 ∷ 24 ∷ 22 ∷ 20 ∷ 18 ∷ 16 ∷ 14 ∷ 12 ∷ 50 ∷ 48 ∷ 46 ∷ 52 ∷ 4 ∷ 5 ∷ 6 ∷ 1 ∷ 2 ∷ 10 ∷ 11 ∷ 9 ∷ 53
+      ∷ 51 ∷ 49 ∷ 47 ∷ 45 ∷ 43 ∷ 41 ∷ 39 ∷ 37 ∷ 35 ∷ 33 ∷ 31 ∷ 29 ∷ 27 ∷ 25 ∷ 23 ∷ 21 ∷ 19 ∷ 17 ∷ 15 ∷ 13 ∷ []) $
+      by ! (loops 𝓣 room₁ room gn q′ l₀ l₁ l₂ l₃ l₄ l₅ l₆ l₇ l₈ l₉ l₁₀ l₁₁ l₁₂ l₁₃ l₁₄ l₁₅ l₁₆ l₁₇ l₁₈ l₁₉ l₂₀)))))))))))))))))))))))
 
 module _ {M : Type 1} (𝓤 : URA M) (H : Heap 𝓤) (A : Atoms 𝓤) (W : Given 𝓤 H A) (mem : Memory → SProp 𝓤) (run : Routine → Fun 𝓤) (𝓣 : Tables 𝓤 H) where
   fill-walks : Walks 𝓤 H A fill′.ended stayed (WpFn 𝓤 H (𝓣 .C) (𝓣 .Λ) code.function) (fill′.clauses 𝓤 H A mem run)

@@ -19,7 +19,8 @@ use prog.Wp.{Heap, Calls, Loops, WpFn, Tables}
 use ghost.Atoms.{Atoms, sem}
 use contract.Monad.{Fun, fact, factI}
 use contract.Running.{givenOf, tables, tablesOf}
-use types.Kit.{_$_, Given, ‵, raw, given, _⊛_, ⋆, some, later, _∵_, !, qed, by, move, keep, drop, use1, use2, use3, rewrite, split, join, pick, learn, fsplit, fjoin, feqL, feqI, suffices, frame, await, done}
+use types.Kit.{_$_, Given, ‵, raw, given, _⊛_, ⋆, some, later, _∵_, !, qed, by, move, keep, drop, use1, use2, use3, rewrite, split, join, pick, learn, fsplit, fjoin}
+use types.Kit.{feqL, feqI, suffices, frame, await, done}
 use types.Run.{look, init, store, forget, stop, hop, fld, from, load, lit, addr, of-opd, and-then, no-more, assigns, land, returns, enter, alloc1, alloc0, params1, pass1, pass0, free1, free0}
 use types.Part.{agg, rep, whole, sub, look-in}
 use types.SemTy.{Arr, cells}
@@ -104,7 +105,8 @@ both 𝓤 P φ ψ x y =
     (monoL 𝓤 P (via 𝓤 (sep 𝓤 (emp 𝓤) (emp 𝓤)) (emp∗ 𝓤 (emp 𝓤)) (mono∗ 𝓤 (factI 𝓤 φ (emp 𝓤) x) (factI 𝓤 ψ (emp 𝓤) y))))
     (comm∗ 𝓤 (sep 𝓤 (fact 𝓤 φ) (fact 𝓤 ψ)) P))
 
-module _ {M : Type 1} (𝓤 : URA M) (H : Heap 𝓤) (A : Atoms 𝓤) (W : Given 𝓤 H A) (mem : Memory → SProp 𝓤) (run : Routine → Fun 𝓤) (κ₁ κ₂ : Lft) (q₁ q₂ : Share) (b₁ o₁ b o : ℕ) (γ₁ γ : GName) (bs : List ℕ) (fs : List Fact)
+module _ {M : Type 1} (𝓤 : URA M) (H : Heap 𝓤) (A : Atoms 𝓤) (W : Given 𝓤 H A) (mem : Memory → SProp 𝓤) (run : Routine → Fun 𝓤) (κ₁ κ₂ : Lft) (q₁ q₂ : Share)
+    (b₁ o₁ b o : ℕ) (γ₁ γ : GName) (bs : List ℕ) (fs : List Fact)
     (room₁ : Room u8 (length bs)) (room : Room T.the-row (length fs)) where
   abbrev x₁ : RefT (List ℕ)
   x₁ = record { ptr = (b₁, o₁); name = γ₁; now = bs }
@@ -206,13 +208,15 @@ module _ {M : Type 1} (𝓤 : URA M) (H : Heap 𝓤) (A : Atoms 𝓤) (W : Given
     walk : ent 𝓤 (onEntry 𝓤 H A read-facts.signature (κ₁, (κ₂, tt)) (q₁, (q₂, tt)) a vals) (WpFn 𝓤 H C Λ code.function (v₁ ∷ v₂ ∷ []) Post)
     walk =
         qed W ((‵ (flft κ₁ q₁) ⊛ ‵ (flft κ₂ q₂) ⊛ ‵ ftrue) ∷ ‵ (owns (ShrSlice (named 0) κ₁ u8 ∷ MutSlice (named 1) κ₂ T.the-row ∷ []) a vals) ∷ []) ∵ enter ! C Λ code.function (v₁ ∷ v₂ ∷ []) _ $
-        alloc1 ! (λ l₀. alloc1 ! (λ l₁. alloc1 ! (λ l₂. alloc1 ! (λ l₃. alloc1 ! (λ l₄. alloc1 ! (λ l₅. alloc1 ! (λ l₆. alloc1 ! (λ l₇. alloc1 ! (λ l₈. alloc1 ! (λ l₉. alloc1 ! (λ l₁₀. alloc1 ! (λ l₁₁. alloc1 ! (λ l₁₂. alloc0 ! $ params1 ! $
+        alloc1 ! (λ l₀. alloc1 ! (λ l₁. alloc1 ! (λ l₂. alloc1 ! (λ l₃. alloc1 ! (λ l₄. alloc1 ! (λ l₅. alloc1 ! (λ l₆. alloc1 ! (λ l₇. alloc1 ! (λ l₈.
+        alloc1 ! (λ l₉. alloc1 ! (λ l₁₀. alloc1 ! (λ l₁₁. alloc1 ! (λ l₁₂. alloc0 ! $ params1 ! $
         pass1 ! (init ! 22 refl (tt, (tt, (record { fits = room₁ .0 }, tt)))) $ pass1 ! (init ! 20 refl (tt, (tt, (record { fits = room .0 }, tt)))) $ pass0 ! $
         -- the row of numbers, all 0, and a slice of it
         assigns ! (rep ! 3072 (lit ! tt)) (from ! (stop !)) (init ! 18 refl (zeros-typed 𝓤 H A W 3072)) $
         assigns ! (of-opd ! (load ! (from ! (fld ! refl (stop !))) (look-in ! 20 (sub ! 1 refl (whole !))))) (from ! (stop !)) (init ! 14 refl (tt, record { fits = room .0 })) $
         assigns ! (addr ! (from ! (stop !))) (from ! (stop !)) (init ! 12 refl (tt, tt)) $
-        assigns ! (agg ! (and-then ! (load ! (from ! (stop !)) (look ! 12 refl)) (and-then ! (big-lit ! (record { fits = lit< tt })) (no-more !)))) (from ! (stop !)) (init ! 10 refl (tt, (tt, (record { fits = lit< tt }, tt)))) $
+        assigns ! (agg ! (and-then ! (load ! (from ! (stop !)) (look ! 12 refl)) (and-then ! (big-lit ! (record { fits = lit< tt })) (no-more !))))
+        (from ! (stop !)) (init ! 10 refl (tt, (tt, (record { fits = lit< tt }, tt)))) $
         move ! (18 ∷ []) $
         use1 W (some (λ (ns : List ℕ). given (length ns ≡ 3072) (‵ (cells (stored u32) ns l₃ 0)))) (zeros-in 𝓤 H A W 3072 l₃) $ pick ! (λ ns. learn ! (λ long.
         rewrite ! 11 (λ (m : ℕ). ‵ (fat fullShare (numbers mut) l₇ 0 (sliceVal (l₃, 0) m))) (sym long) refl $
@@ -227,7 +231,8 @@ module _ {M : Type 1} (𝓤 : URA M) (H : Heap 𝓤) (A : Atoms 𝓤) (W : Given
         -- it is lent to `read_row` for a lifetime ν
         lft-new ! tt (λ ν.
         move ! (7 ∷ []) $
-        use1 W (later (some (λ (δ : GName). ‵ (MutSlice (named 1) (ν ∷ []) u32 .own (at-row l₃ δ ns) (on l₃ ns ∷ [])) ⊛ ‵ (flent (ν ∷ []) (Held u32 (length ns) l₃ 0 δ))))) (lends-slice 𝓤 H A W u32 (named 1) (ν ∷ []) ns l₃ 0 (row-room ns long)) $ await ! tt $ pick ! (λ δ. split ! $
+        use1 W (later (some (λ (δ : GName). ‵ (MutSlice (named 1) (ν ∷ []) u32 .own (at-row l₃ δ ns) (on l₃ ns ∷ [])) ⊛ ‵ (flent (ν ∷ []) (Held u32 (length ns) l₃ 0 δ)))))
+        (lends-slice 𝓤 H A W u32 (named 1) (ν ∷ []) ns l₃ 0 (row-room ns long)) $ await ! tt $ pick ! (λ δ. split ! $
         nothing ! $
         move ! (3 ∷ 0 ∷ []) $
         join ! $
@@ -242,9 +247,13 @@ module _ {M : Type 1} (𝓤 : URA M) (H : Heap 𝓤) (A : Atoms 𝓤) (W : Given
         fjoin ! $
         move ! (1 ∷ 0 ∷ []) $
         use2 W (raw (ReadRow 𝓤 H A mem run .pre (to-read-row l₃ ν δ ns))) (asks-read-row l₃ ν δ ns long) $
-        calls-at ! fm (ReadRow 𝓤 H A mem run) known₁ (to-read-row l₃ ν δ ns) (and-then ! (load ! (from ! (stop !)) (look ! 27 refl)) (and-then ! (load ! (from ! (stop !)) (look ! 20 refl)) (and-then ! (load ! (from ! (stop !)) (look ! 16 refl)) (no-more !)))) (λ u.
-        use1 W (later (some (λ (r : Answer). ((‵ (flft κ₁ q₁) ⊛ ‵ (flft (ν ∷ []) fullShare) ⊛ ‵ ftrue) ⊛ ‵ (E.the-row .own r (u ∷ []))) ⊛ raw (ensured 𝓤 H A read-row.ended (read-row.clauses 𝓤 H A mem run) (κ₁, (ν ∷ [], tt)) (x₁, (length fs, (at-row l₃ δ ns, tt))) tt r)))) (id⊢ 𝓤 _) $ await ! tt $ pick ! (λ r.
-        split ! $ move ! (1 ∷ []) $ use1 W (some (λ (zs : Unit {0} × (Unit {0} × (List ℕ × Unit {0}))). ‵ (lasts read-row.ended (κ₁, (ν ∷ [], tt)) (x₁, (length fs, (at-row l₃ δ ns, tt))) zs) ⊛ raw (fact 𝓤 (Answers r)) ⊛ raw (fact 𝓤 (Loads ns (zs .1 .1 .0))))) (id⊢ 𝓤 _) $ pick ! (λ zs.
+        calls-at ! fm (ReadRow 𝓤 H A mem run) known₁ (to-read-row l₃ ν δ ns)
+        (and-then ! (load ! (from ! (stop !)) (look ! 27 refl)) (and-then ! (load ! (from ! (stop !)) (look ! 20 refl)) (and-then ! (load ! (from ! (stop !)) (look ! 16 refl)) (no-more !)))) (λ u.
+        use1 W (later (some (λ (r : Answer). ((‵ (flft κ₁ q₁) ⊛ ‵ (flft (ν ∷ []) fullShare) ⊛ ‵ ftrue) ⊛ ‵ (E.the-row .own r (u ∷ [])))
+        ⊛ raw (ensured 𝓤 H A read-row.ended (read-row.clauses 𝓤 H A mem run) (κ₁, (ν ∷ [], tt)) (x₁, (length fs, (at-row l₃ δ ns, tt))) tt r)))) (id⊢ 𝓤 _) $ await ! tt $ pick ! (λ r.
+        split ! $ move ! (1 ∷ []) $
+        use1 W (some (λ (zs : Unit {0} × (Unit {0} × (List ℕ × Unit {0}))). ‵ (lasts read-row.ended (κ₁, (ν ∷ [], tt)) (x₁, (length fs, (at-row l₃ δ ns, tt))) zs)
+        ⊛ raw (fact 𝓤 (Answers r)) ⊛ raw (fact 𝓤 (Loads ns (zs .1 .1 .0))))) (id⊢ 𝓤 _) $ pick ! (λ zs.
         split ! $ move ! (1 ∷ []) $ split ! $ heard ! (Answers r) (λ e₁. heard ! (Loads ns (zs .1 .1 .0)) (λ e₂.
         fsplit ! $
         move ! (1 ∷ []) $
@@ -266,22 +275,27 @@ module _ {M : Type 1} (𝓤 : URA M) (H : Heap 𝓤) (A : Atoms 𝓤) (W : Given
         use3 W (later (‵ (Arr (stored u32) (length ns) .lies (zs .1 .1 .0) l₃ 0))) (slice-back 𝓤 H A W u32 (ν ∷ []) δ (zs .1 .1 .0) (length ns) l₃ 0) $ await ! tt $ fsplit ! $ drop ! $
         use1 W (‵ (row u32 fullShare (zs .1 .1 .0) l₃ 0)) (whole-out 𝓤 H A W u32 (zs .1 .1 .0) l₃ 0) $ feqI ! ℕ (length (zs .1 .1 .0)) (length (zs .1 .1 .0)) refl $ fjoin ! $
         assigns ! (addr ! (from ! (stop !))) (from ! (stop !)) (init ! 17 refl (tt, tt)) $
-        assigns ! (agg ! (and-then ! (load ! (from ! (stop !)) (look ! 17 refl)) (and-then ! (big-lit ! (record { fits = lit< tt })) (no-more !)))) (from ! (stop !)) (init ! 15 refl (tt, (tt, (record { fits = lit< tt }, tt)))) $
+        assigns ! (agg ! (and-then ! (load ! (from ! (stop !)) (look ! 17 refl)) (and-then ! (big-lit ! (record { fits = lit< tt })) (no-more !))))
+        (from ! (stop !)) (init ! 15 refl (tt, (tt, (record { fits = lit< tt }, tt)))) $
         rewrite ! 15 (λ (m : ℕ). ‵ (fat fullShare (numbers imm) l₁₀ 0 (sliceVal (l₃, 0) m))) (sym (len ∙ long)) refl $
         assigns ! (addr ! (from ! (fld ! refl (hop ! (look-in ! 30 (sub ! 0 refl (whole !))) (stop !))))) (from ! (stop !)) (init ! 13 refl (tt, tt)) $
-        assigns ! (agg ! (and-then ! (load ! (from ! (stop !)) (look ! 13 refl)) (and-then ! (load ! (from ! (fld ! refl (stop !))) (look-in ! 30 (sub ! 1 refl (whole !)))) (no-more !)))) (from ! (stop !)) (init ! 11 refl (tt, (tt, (record { fits = room .0 }, tt)))) $
+        assigns ! (agg ! (and-then ! (load ! (from ! (stop !)) (look ! 13 refl)) (and-then ! (load ! (from ! (fld ! refl (stop !))) (look-in ! 30 (sub ! 1 refl (whole !)))) (no-more !))))
+        (from ! (stop !)) (init ! 11 refl (tt, (tt, (record { fits = room .0 }, tt)))) $
         -- how many facts there are
         move ! (3 ∷ []) $
         use1 W (raw (CountOf 𝓤 H A mem run .pre (to-count-of r u))) (asks-count-of r u) $
         calls-at ! fm (CountOf 𝓤 H A mem run) known₂ (to-count-of r u) (and-then ! (load ! (from ! (stop !)) (look ! 27 refl)) (no-more !)) (λ u₂.
-        use1 W (later (some (λ (n : ℕ). (‵ ftrue ⊛ ‵ (usize .own n (u₂ ∷ []))) ⊛ raw (ensured 𝓤 H A count-of.ended (count-of.clauses 𝓤 H A mem run) tt (r, tt) tt n)))) (id⊢ 𝓤 _) $ await ! tt $ pick ! (λ n.
+        use1 W (later (some (λ (n : ℕ). (‵ ftrue ⊛ ‵ (usize .own n (u₂ ∷ []))) ⊛ raw (ensured 𝓤 H A count-of.ended (count-of.clauses 𝓤 H A mem run) tt (r, tt) tt n)))) (id⊢ 𝓤 _) $ await ! tt $
+        pick ! (λ n.
         split ! $ move ! (1 ∷ []) $ use1 W (raw (fact 𝓤 (n ≡ codeOf r .count))) (counts n r) $ heard ! (n ≡ codeOf r .count) (λ e₃. split ! $ move ! (1 ∷ []) $
         peeks ! usize (Is usize) (shows 𝓤 H A usize) n (u₂ ∷ []) (λ is₂.
         land ! (from ! (stop !)) (store ! 26 refl (uint-lawful 𝓤 H A W w64 .typed n _ is₂ .0)) $
         -- the row is lent to `fill`, shared, for a lifetime ν₂, and the records are given up to it
         lft-new ! tt (λ ν₂.
         move ! (3 ∷ []) $
-        use1 W (later (some (λ (δ₂ : GName). ‵ (ShrSlice (named 0) (ν₂ ∷ []) u32 .own (at-row l₃ δ₂ (zs .1 .1 .0)) (on l₃ (zs .1 .1 .0) ∷ [])) ⊛ ‵ (flent (ν₂ ∷ []) (whole-row (zs .1 .1 .0) l₃))))) (lends-shr-slice 𝓤 H A W u32 (named 0) (ν₂ ∷ []) fullShare (zs .1 .1 .0) l₃ 0 (row-room (zs .1 .1 .0) (len ∙ long))) $ await ! tt $ pick ! (λ δ₂. split ! $
+        use1 W (later (some (λ (δ₂ : GName). ‵ (ShrSlice (named 0) (ν₂ ∷ []) u32 .own (at-row l₃ δ₂ (zs .1 .1 .0)) (on l₃ (zs .1 .1 .0) ∷ []))
+        ⊛ ‵ (flent (ν₂ ∷ []) (whole-row (zs .1 .1 .0) l₃))))) (lends-shr-slice 𝓤 H A W u32 (named 0) (ν₂ ∷ []) fullShare (zs .1 .1 .0) l₃ 0 (row-room (zs .1 .1 .0) (len ∙ long))) $ await ! tt $
+        pick ! (λ δ₂. split ! $
         move ! (2 ∷ 10 ∷ []) $
         join ! $
         nothing ! $
@@ -293,9 +307,13 @@ module _ {M : Type 1} (𝓤 : URA M) (H : Heap 𝓤) (A : Atoms 𝓤) (W : Given
         fjoin ! $
         move ! (1 ∷ 0 ∷ []) $
         use2 W (raw (Fill 𝓤 H A mem run .pre (to-fill l₃ ν₂ δ₂ (zs .1 .1 .0) n u₂))) (asks-fill l₃ ν₂ δ₂ (zs .1 .1 .0) n u₂ (within r n (zs .1 .1 .0) e₁ e₃ (len ∙ long))) $
-        calls-at ! fm (Fill 𝓤 H A mem run) known₃ (to-fill l₃ ν₂ δ₂ (zs .1 .1 .0) n u₂) (and-then ! (load ! (from ! (stop !)) (look ! 14 refl)) (and-then ! (load ! (from ! (stop !)) (look ! 10 refl)) (and-then ! (load ! (from ! (stop !)) (look ! 24 refl)) (no-more !)))) (λ y.
-        use1 W (later (some (λ (k : Unit {0}). ((‵ (flft (ν₂ ∷ []) fullShare) ⊛ ‵ (flft κ₂ q₂) ⊛ ‵ ftrue) ⊛ ‵ (Nothing .own k (y ∷ []))) ⊛ raw (ensured 𝓤 H A fill.ended (fill.clauses 𝓤 H A mem run) (ν₂ ∷ [], (κ₂, tt)) (at-row l₃ δ₂ (zs .1 .1 .0), (x, (n, tt))) tt k)))) (id⊢ 𝓤 _) $ await ! tt $ pick ! (λ k.
-        split ! $ move ! (1 ∷ []) $ use1 W (some (λ (ys : Unit {0} × (List Fact × (Unit {0} × Unit {0}))). ‵ (lasts fill.ended (ν₂ ∷ [], (κ₂, tt)) (at-row l₃ δ₂ (zs .1 .1 .0), (x, (n, tt))) ys) ⊛ raw (fact 𝓤 (Fills (zs .1 .1 .0) n (ys .1 .0))))) (id⊢ 𝓤 _) $ pick ! (λ ys.
+        calls-at ! fm (Fill 𝓤 H A mem run) known₃ (to-fill l₃ ν₂ δ₂ (zs .1 .1 .0) n u₂)
+        (and-then ! (load ! (from ! (stop !)) (look ! 14 refl)) (and-then ! (load ! (from ! (stop !)) (look ! 10 refl)) (and-then ! (load ! (from ! (stop !)) (look ! 24 refl)) (no-more !)))) (λ y.
+        use1 W (later (some (λ (k : Unit {0}). ((‵ (flft (ν₂ ∷ []) fullShare) ⊛ ‵ (flft κ₂ q₂) ⊛ ‵ ftrue) ⊛ ‵ (Nothing .own k (y ∷ [])))
+        ⊛ raw (ensured 𝓤 H A fill.ended (fill.clauses 𝓤 H A mem run) (ν₂ ∷ [], (κ₂, tt)) (at-row l₃ δ₂ (zs .1 .1 .0), (x, (n, tt))) tt k)))) (id⊢ 𝓤 _) $ await ! tt $ pick ! (λ k.
+        split ! $ move ! (1 ∷ []) $
+        use1 W (some (λ (ys : Unit {0} × (List Fact × (Unit {0} × Unit {0}))). ‵ (lasts fill.ended (ν₂ ∷ [], (κ₂, tt)) (at-row l₃ δ₂ (zs .1 .1 .0), (x, (n, tt))) ys)
+        ⊛ raw (fact 𝓤 (Fills (zs .1 .1 .0) n (ys .1 .0))))) (id⊢ 𝓤 _) $ pick ! (λ ys.
         split ! $ move ! (1 ∷ []) $ heard ! (Fills (zs .1 .1 .0) n (ys .1 .0)) (λ e₄.
         fsplit ! $
         move ! (1 ∷ []) $
@@ -312,11 +330,14 @@ module _ {M : Type 1} (𝓤 : URA M) (H : Heap 𝓤) (A : Atoms 𝓤) (W : Given
         move ! (1 ∷ []) $
         lft-end ! tt $
         move ! (0 ∷ 6 ∷ []) $
-        lent-back ! tt $ use1 W (some (λ (v : Val). given (Is (Array u32 (length (zs .1 .1 .0))) (zs .1 .1 .0) (v ∷ [])) (‵ (fat fullShare (tyArray (tyInt w32) (length (zs .1 .1 .0))) l₃ 0 v)))) (array-out 𝓤 H A W u32 (length (zs .1 .1 .0)) (zs .1 .1 .0) l₃) $ pick ! (λ v. learn ! (λ _.
+        lent-back ! tt $
+        use1 W (some (λ (v : Val). given (Is (Array u32 (length (zs .1 .1 .0))) (zs .1 .1 .0) (v ∷ [])) (‵ (fat fullShare (tyArray (tyInt w32) (length (zs .1 .1 .0))) l₃ 0 v))))
+        (array-out 𝓤 H A W u32 (length (zs .1 .1 .0)) (zs .1 .1 .0) l₃) $ pick ! (λ v. learn ! (λ _.
         forget ! 0 refl $ rewrite ! 0 (λ (m : ℕ). ‵ (froom (tyArray (tyInt w32) m) l₃ 0)) (len ∙ long) refl $
         assigns ! (of-opd ! (load ! (from ! (stop !)) (look ! 29 refl))) (from ! (stop !)) (init ! 36 refl (typed r u is)) $
         returns ! (look ! 36 refl) $
-        forget ! 36 refl $ forget ! 34 refl $ forget ! 32 refl $ forget ! 29 refl $ forget ! 27 refl $ forget ! 25 refl $ forget ! 23 refl $ forget ! 21 refl $ forget ! 19 refl $ forget ! 17 refl $ forget ! 15 refl $ forget ! 13 refl $
+        forget ! 36 refl $ forget ! 34 refl $ forget ! 32 refl $ forget ! 29 refl $ forget ! 27 refl $ forget ! 25 refl $ forget ! 23 refl $ forget ! 21 refl $
+        forget ! 19 refl $ forget ! 17 refl $ forget ! 15 refl $ forget ! 13 refl $
         move ! (36 ∷ 37 ∷ []) $ free1 ! $ move ! (34 ∷ 35 ∷ []) $ free1 ! $ move ! (32 ∷ 33 ∷ []) $ free1 ! $ move ! (0 ∷ 31 ∷ []) $ free1 ! $
         move ! (28 ∷ 29 ∷ []) $ free1 ! $ move ! (26 ∷ 27 ∷ []) $ free1 ! $ move ! (24 ∷ 25 ∷ []) $ free1 ! $ move ! (22 ∷ 23 ∷ []) $ free1 ! $
         move ! (20 ∷ 21 ∷ []) $ free1 ! $ move ! (18 ∷ 19 ∷ []) $ free1 ! $ move ! (16 ∷ 17 ∷ []) $ free1 ! $ move ! (14 ∷ 15 ∷ []) $ free1 ! $

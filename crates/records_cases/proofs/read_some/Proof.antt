@@ -19,7 +19,8 @@ use prog.Wp.{Heap, Calls, Loops, WpFn, Tables}
 use ghost.Atoms.{Atoms, sem}
 use contract.Monad.{Fun, fact}
 use contract.Running.{givenOf, tables, tablesOf}
-use types.Kit.{Given, ‵, raw, given, _⊛_, ⋆, some, later, _$_, _∵_, !, qed, by, move, keep, drop, use1, use2, use3, rewrite, split, join, pick, learn, fsplit, fjoin, fpick, fpack, feqL, feqI, suffices, frame, await, done}
+use types.Kit.{Given, ‵, raw, given, _⊛_, ⋆, some, later, _$_, _∵_, !, qed, by, move, keep, drop, use1, use2, use3, rewrite, split, join, pick, learn, fsplit, fjoin}
+use types.Kit.{fpick, fpack, feqL, feqI, suffices, frame, await, done}
 use types.Run.{look, init, forget, stop, from, load, addr, of-opd, and-then, no-more, assigns, land, returns, enter, alloc1, alloc0, params1, pass1, pass0, free1, free0}
 use types.Part.{agg}
 use types.SemTy.{Arr, cells}
@@ -103,7 +104,8 @@ module _ {M : Type 1} (𝓤 : URA M) (H : Heap 𝓤) (A : Atoms 𝓤) (mem : Mem
   abbrev ReadFacts : Contract 𝓤
   ReadFacts = tripleOf 𝓤 H A read-facts.signature (read-facts.spec 𝓤 H A mem run)
 
-module _ {M : Type 1} (𝓤 : URA M) (H : Heap 𝓤) (A : Atoms 𝓤) (W : Given 𝓤 H A) (mem : Memory → SProp 𝓤) (run : Routine → Fun 𝓤) (κ₁ : Lft) (q₁ : Share) (b₁ o₁ : ℕ) (γ₁ : GName) (bs : List ℕ) (n : ℕ) (fs : List Fact) (v₃ : Val)
+module _ {M : Type 1} (𝓤 : URA M) (H : Heap 𝓤) (A : Atoms 𝓤) (W : Given 𝓤 H A) (mem : Memory → SProp 𝓤) (run : Routine → Fun 𝓤) (κ₁ : Lft) (q₁ : Share) (b₁ o₁ : ℕ)
+    (γ₁ : GName) (bs : List ℕ) (n : ℕ) (fs : List Fact) (v₃ : Val)
     (room₁ : Room u8 (length bs)) (small : n ≤ 1025) (is₃ : Is Row fs (v₃ ∷ [])) where
   abbrev x₁ : RefT (List ℕ)
   x₁ = record { ptr = (b₁, o₁); name = γ₁; now = bs }
@@ -151,7 +153,8 @@ module _ {M : Type 1} (𝓤 : URA M) (H : Heap 𝓤) (A : Atoms 𝓤) (W : Given
   typed-answer : (r : Answer) (u : Val) → Is E.the-row r (u ∷ []) → Holds (hasTy E′.mir u) × WT u
   typed-answer r u is = EL.lawful E.the-type E′.the-laws 𝓤 H A W tt .typed r (u ∷ []) is .0
 
-  typed-filled : (r : Answer) (u : Val) (xs : List Fact) (v : Val) → Is E.the-row r (u ∷ []) → Is Row xs (v ∷ []) → Holds (hasTy F′.mir (vstruct (vcons u (vcons v vnil)))) × WT (vstruct (vcons u (vcons v vnil)))
+  typed-filled : (r : Answer) (u : Val) (xs : List Fact) (v : Val) → Is E.the-row r (u ∷ []) → Is Row xs (v ∷ [])
+      → Holds (hasTy F′.mir (vstruct (vcons u (vcons v vnil)))) × WT (vstruct (vcons u (vcons v vnil)))
   typed-filled r u xs v is₁ is₂ = SL.lawful F.the-type F′.the-laws 𝓤 H A W .typed (filled r xs) (vstruct (vcons u (vcons v vnil)) ∷ []) (is-filled r u xs v is₁ is₂) .0
 
   -- the array is the records that are lent and the others, side by side
@@ -216,7 +219,8 @@ module _ {M : Type 1} (𝓤 : URA M) (H : Heap 𝓤) (A : Atoms 𝓤) (W : Given
         -- the records, a local, and a slice of the first n
         assigns ! (of-opd ! (load ! (from ! (stop !)) (look ! 10 refl))) (from ! (stop !)) (init ! 8 refl (typed-array fs v₃ is₃)) $
         assigns ! (addr ! (from ! (stop !))) (from ! (stop !)) (init ! 4 refl (tt, tt)) $
-        assigns ! (agg ! (and-then ! (load ! (from ! (stop !)) (look ! 4 refl)) (and-then ! (load ! (from ! (stop !)) (look ! 12 refl)) (no-more !)))) (from ! (stop !)) (init ! 2 refl (tt, (tt, (record { fits = fits-n }, tt)))) $
+        assigns ! (agg ! (and-then ! (load ! (from ! (stop !)) (look ! 4 refl)) (and-then ! (load ! (from ! (stop !)) (look ! 12 refl)) (no-more !))))
+        (from ! (stop !)) (init ! 2 refl (tt, (tt, (record { fits = fits-n }, tt)))) $
         rewrite ! 2 (λ (m : ℕ). ‵ (fat fullShare sliceOfRecords l₇ 0 (sliceVal (l₄, 0) m))) (sym long) refl $
         move ! (8 ∷ []) $
         use1 W (‵ (cells (stored T.the-row) front l₄ 0) ⊛ ‵ (cells (stored T.the-row) back l₄ behind)) (parted l₄) $ split ! $
@@ -227,7 +231,8 @@ module _ {M : Type 1} (𝓤 : URA M) (H : Heap 𝓤) (A : Atoms 𝓤) (W : Given
         -- it is lent to `read_facts` for a lifetime ν
         lft-new ! tt (λ ν.
         move ! (5 ∷ []) $
-        use1 W (later (some (λ (δ : GName). ‵ (MutSlice (named 1) (ν ∷ []) T.the-row .own (lent-at l₄ δ) (on l₄ ∷ [])) ⊛ ‵ (flent (ν ∷ []) (Held T.the-row (length front) l₄ 0 δ))))) (lends-slice 𝓤 H A W T.the-row (named 1) (ν ∷ []) front l₄ 0 room) $ await ! tt $ pick ! (λ δ. split ! $
+        use1 W (later (some (λ (δ : GName). ‵ (MutSlice (named 1) (ν ∷ []) T.the-row .own (lent-at l₄ δ) (on l₄ ∷ [])) ⊛ ‵ (flent (ν ∷ []) (Held T.the-row (length front) l₄ 0 δ)))))
+        (lends-slice 𝓤 H A W T.the-row (named 1) (ν ∷ []) front l₄ 0 room) $ await ! tt $ pick ! (λ δ. split ! $
         nothing ! $
         move ! (3 ∷ 0 ∷ []) $
         join ! $
@@ -240,9 +245,13 @@ module _ {M : Type 1} (𝓤 : URA M) (H : Heap 𝓤) (A : Atoms 𝓤) (W : Given
         fjoin ! $
         move ! (1 ∷ 0 ∷ []) $
         use2 W (raw (ReadFacts 𝓤 H A mem run .pre (to-read l₄ ν δ))) (asks l₄ ν δ) $
-        calls-at ! fm (ReadFacts 𝓤 H A mem run) known (to-read l₄ ν δ) (and-then ! (load ! (from ! (stop !)) (look ! 18 refl)) (and-then ! (load ! (from ! (stop !)) (look ! 7 refl)) (no-more !))) (λ u.
-        use1 W (later (some (λ (r : Answer). ((‵ (flft κ₁ q₁) ⊛ ‵ (flft (ν ∷ []) fullShare) ⊛ ‵ ftrue) ⊛ ‵ (E.the-row .own r (u ∷ []))) ⊛ raw (ensured 𝓤 H A read-facts.ended (read-facts.clauses 𝓤 H A mem run) (κ₁, (ν ∷ [], tt)) (x₁, (lent-at l₄ δ, tt)) tt r)))) (id⊢ 𝓤 _) $ await ! tt $ pick ! (λ r.
-        split ! $ move ! (1 ∷ []) $ use1 W (some (λ (zs : Unit {0} × (List Fact × Unit {0})). ‵ (lasts read-facts.ended (κ₁, (ν ∷ [], tt)) (x₁, (lent-at l₄ δ, tt)) zs) ⊛ raw (fact 𝓤 (r ≡ settledRecords (tableOf bs) (length front))) ⊛ raw (fact 𝓤 (zs .1 .0 ≡ filledRecords (tableOf bs) front)))) (id⊢ 𝓤 _) $ pick ! (λ zs.
+        calls-at ! fm (ReadFacts 𝓤 H A mem run) known (to-read l₄ ν δ)
+        (and-then ! (load ! (from ! (stop !)) (look ! 18 refl)) (and-then ! (load ! (from ! (stop !)) (look ! 7 refl)) (no-more !))) (λ u.
+        use1 W (later (some (λ (r : Answer). ((‵ (flft κ₁ q₁) ⊛ ‵ (flft (ν ∷ []) fullShare) ⊛ ‵ ftrue) ⊛ ‵ (E.the-row .own r (u ∷ [])))
+        ⊛ raw (ensured 𝓤 H A read-facts.ended (read-facts.clauses 𝓤 H A mem run) (κ₁, (ν ∷ [], tt)) (x₁, (lent-at l₄ δ, tt)) tt r)))) (id⊢ 𝓤 _) $ await ! tt $ pick ! (λ r.
+        split ! $ move ! (1 ∷ []) $
+        use1 W (some (λ (zs : Unit {0} × (List Fact × Unit {0})). ‵ (lasts read-facts.ended (κ₁, (ν ∷ [], tt)) (x₁, (lent-at l₄ δ, tt)) zs)
+        ⊛ raw (fact 𝓤 (r ≡ settledRecords (tableOf bs) (length front))) ⊛ raw (fact 𝓤 (zs .1 .0 ≡ filledRecords (tableOf bs) front)))) (id⊢ 𝓤 _) $ pick ! (λ zs.
         split ! $ move ! (1 ∷ []) $ drop ! $
         fsplit ! $
         move ! (1 ∷ []) $
@@ -262,7 +271,8 @@ module _ {M : Type 1} (𝓤 : URA M) (H : Heap 𝓤) (A : Atoms 𝓤) (W : Given
         move ! (0 ∷ 8 ∷ []) $
         use2 W (some (λ (v : Val). given (Is Row (zs .1 .0 ++ back) (v ∷ [])) (‵ (fat fullShare arrayTy l₄ 0 v)))) (joined l₄ (zs .1 .0) same) $ pick ! (λ v. learn ! (λ is₄.
         assigns ! (of-opd ! (load ! (from ! (stop !)) (look ! 0 refl))) (from ! (stop !)) (init ! 8 refl (typed-array (zs .1 .0 ++ back) v is₄)) $
-        assigns ! (agg ! (and-then ! (load ! (from ! (stop !)) (look ! 14 refl)) (and-then ! (load ! (from ! (stop !)) (look ! 8 refl)) (no-more !)))) (from ! (stop !)) (init ! 23 refl (typed-filled r u (zs .1 .0 ++ back) v is is₄)) $
+        assigns ! (agg ! (and-then ! (load ! (from ! (stop !)) (look ! 14 refl)) (and-then ! (load ! (from ! (stop !)) (look ! 8 refl)) (no-more !))))
+        (from ! (stop !)) (init ! 23 refl (typed-filled r u (zs .1 .0 ++ back) v is is₄)) $
         returns ! (look ! 23 refl) $
         forget ! 23 refl $ forget ! 21 refl $ forget ! 19 refl $ forget ! 17 refl $ forget ! 0 refl $ forget ! 14 refl $ forget ! 12 refl $ forget ! 10 refl $ forget ! 8 refl $
         move ! (23 ∷ 24 ∷ []) $ free1 ! $ move ! (21 ∷ 22 ∷ []) $ free1 ! $ move ! (19 ∷ 20 ∷ []) $ free1 ! $
