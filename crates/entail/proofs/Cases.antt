@@ -16,5 +16,8 @@ use Rattle.entail.specs.Cases.{cases, answer}
 
 -- each case gets the answer that document 01 gives
 pub twelve : map answer cases ≡ map (λ c. c .gives) cases
-unfolding column field numberAt hasField isField fields line laidOut flat itemsFrom kindOf hasNoTerm hasBlank misplaced faultOf before above earns firstEarned onward scan orElse lineFact sized meant lineVerdict tableScan tableOf keep any layer least link property chain onlyTable goesOn next typed start goal ways reaches fewest questionFault asked answerBy answerOf unless answerFrom questionAnswer cases answer
+unfolding column field numberAt hasField isField fields line laidOut flat itemsFrom kindOf hasNoTerm hasBlank misplaced faultOf
+    before above earns firstEarned onward scan orElse lineFact sized meant lineVerdict tableScan tableOf keep any layer least link
+    property chain onlyTable goesOn next typed start goal ways reaches fewest questionFault asked answerBy answerOf unless
+    answerFrom questionAnswer cases answer
 twelve = refl

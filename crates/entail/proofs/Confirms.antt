@@ -1,7 +1,6 @@
 -- What a yes printed is accepted by the check, with the same count.
 -- Assumes nothing.
 use mathlib.Core.Path.{_≡_, refl, sym, ap, _∙_}
-use mathlib.Core.Logic.{inl}
 use mathlib.Core.Bool.{cond}
 use mathlib.Core.List.{List}
 use Prim.Native.Nat.{ℕ, _+_, _-_, _*_, _≤_, _<_}
@@ -27,7 +26,7 @@ use Rattle.derivation.proofs.Bytes.{derivation-length}
 use Rattle.checker.specs.Check.{checkAnswer}
 use Rattle.search.specs.Question.{needed, questionFault, asked, answerOf, unless, answerFrom, questionAnswer, Answered}
 use Rattle.entail.specs.Demands.{SoundInput}
-use Rattle.entail.proofs.Codes.{accepted-of}
+use Rattle.entail.proofs.Codes.{same-answer}
 use Rattle.entail.proofs.Refusals.{sound-table}
 use Rattle.entail.proofs.Demands.{demand-3}
 
@@ -55,15 +54,23 @@ yes-sound b t limit m f (accepted facts) z e =
     let s = asked-sound limit m (faultOf t) (unless-yes (asked t limit m) (answerOf facts t limit) f e) in
     (facts, record { table = sound-table b facts .0 z; fact = fault-none t .0 (s .0); limited = s .1; room = s .2 })
 
--- what is used of the output, and that the check accepts it
-pub yes-checked : (b : List ℕ) (t : Fact) (limit f : ℕ) (entry exit : List ℕ) (a : Answer) → Answered b t limit entry exit a → a ≡ Yes f
-    → (0 < f) × (f ≤ 1024) × (31 * (2 * f - 1) ≤ length exit) × (checkAnswer b t (take (31 * (2 * f - 1)) exit) ≡ Accepted f)
+-- what a yes with f printed: 2 f - 1 lines in front of the output, which the check accepts with f
+pub record Checked (b : List ℕ) (t : Fact) (f : ℕ) (exit : List ℕ) : Type 0 where
+  pub some : 0 < f
+  pub room : 31 * (2 * f - 1) ≤ length exit
+  pub accepted : checkAnswer b t (take (31 * (2 * f - 1)) exit) ≡ Accepted f
+
+pub yes-checked : (b : List ℕ) (t : Fact) (limit f : ℕ) (entry exit : List ℕ) (a : Answer) → Answered b t limit entry exit a → a ≡ Yes f → Checked b t f exit
 yes-checked b t limit f entry exit a g e =
     let s = yes-sound b t limit (length entry) f (tableOf b) refl (unfold questionAnswer in sym (g .answer) ∙ e) in
     let p = demand-3 .printed b (s .0) t limit entry exit a f (s .1) g (ap codeOf e) in
-    let few = demand-3 .least b (s .0) t limit entry exit a f (s .1) g (inl (ap codeOf e)) .1 in
-    let d = p .0 in
-    let used : length (derivationBytes d) ≡ 31 * (2 * f - 1) = omega (arith, derivation-length d, p .2) in
-    let front : take (31 * (2 * f - 1)) exit ≡ derivationBytes d = ap (take (31 * (2 * f - 1))) (p .1) ∙ take-at (derivationBytes d) (drop (length (derivationBytes d)) entry) (31 * (2 * f - 1)) used in
-    let long : length exit ≡ length (derivationBytes d) + length (drop (length (derivationBytes d)) entry) = ap length (p .1) ∙ length-append (derivationBytes d) _ in
-    (omega (arith, p .2), omega (arith, s .1 .table .sound .few), omega arith, rw front (accepted-of (checkAnswer b t (derivationBytes d)) f (p .6)))
+    let n = 31 * (2 * f - 1) in
+    let bytes = derivationBytes (p .0) in
+    let rest = drop (length bytes) entry in
+    let used : length bytes ≡ n = omega (arith, derivation-length (p .0), p .2) in
+    let long : length exit ≡ length bytes + length rest = ap length (p .1) ∙ length-append bytes _ in
+    record {
+      some = omega (arith, p .2);
+      room = omega arith;
+      accepted = ap (λ x. checkAnswer b t x) (ap (take n) (p .1) ∙ take-at bytes rest n used) ∙ same-answer (checkAnswer b t bytes) (Accepted f) (p .6);
+    }

@@ -14,7 +14,7 @@ use Rattle.facts.specs.declared.Fact.{Fact}
 use Rattle.facts.specs.declared.Refusal.{Refusal}
 use Rattle.facts.specs.declared.Verdict.the-variants.{Sound}
 use Rattle.facts.specs.declared.Answer.{Answer}
-use Rattle.facts.specs.declared.Answer.the-variants.{Yes, Refused}
+use Rattle.facts.specs.declared.Answer.the-variants.{Yes, No, Long, Accepted, Refused}
 use Rattle.facts.specs.Facts.{wellFormed}
 use Rattle.facts.specs.Answers.{codeOf}
 use Rattle.facts.proofs.Terms.{by-cases}
@@ -37,8 +37,8 @@ use Rattle.checker.proofs.Accepts.{check-accepts}
 use Rattle.search.specs.Question.{needed, questionFault, asked, answerBy, answerOf, unless, questionAnswer, printedFor, printedFrom, written, outputAfter, Answered}
 use Rattle.search.proofs.Answered.{answer-accepted, accepted-formed, yes-fewest, long-fewest, no-fewest, fewest-meant, fewest-prints, same-count}
 use Rattle.entail.specs.Refusals.{SoundTable}
-use Rattle.entail.specs.Demands.{YesWith, LongWith, Follows, SaysNo, AcceptedWith, SoundInput, Within, Demand-1, Demand-2, Demand-3}
-use Rattle.entail.proofs.Codes.{yes-of, long-of, no-of, accepted-of, refused-of}
+use Rattle.entail.specs.Demands.{YesWith, LongWith, Follows, SaysNo, AcceptedWith, RefusedWith, SoundInput, Within, Demand-1, Demand-2, Demand-3}
+use Rattle.entail.proofs.Codes.{same-answer}
 use Rattle.entail.proofs.Refusals.{sound-table, question-refused, check-refused, memory-refused, memory-unchanged}
 
 -- ---- demand 1
@@ -47,18 +47,19 @@ unchanged : (b : List ℕ) (t : Fact) (limit : ℕ) (entry exit : List ℕ) (a :
 unfolding outputAfter written
 unchanged b t limit entry exit a r place g e = g .output ∙ rw (sym (g .answer) ∙ e)
 
+-- exactly where an answer is a refusal it says so by its numbers
+by-numbers : {P : Type 0} (a : Answer) (r : Refusal) (place : ℕ) → a ≡ Refused r place ↔ P → RefusedWith a r place ↔ P
+by-numbers a r place q = (λ e. q .0 (same-answer a (Refused r place) e), λ h. ap codeOf (q .1 h))
+
 pub demand-1 : Demand-1
 demand-1 = record {
-  question-refused = λ b t limit m r place.
-      let q = question-refused b t limit m r place in (λ e. q .0 (refused-of (questionAnswer b t limit m) r place e), λ h. ap codeOf (q .1 h));
-  question-unchanged = λ b t limit entry exit a r place g e. unchanged b t limit entry exit a r place g (refused-of a r place e);
-  check-refused = λ b t x r place. let q = check-refused b t x r place in (λ e. q .0 (refused-of (checkAnswer b t x) r place e), λ h. ap codeOf (q .1 h));
-  read-refused = λ b m r place.
-      let q = memory-refused rowOf (tableOf b) m r place in (λ e. q .0 (refused-of (settled rowOf (tableOf b) m) r place e), λ h. ap codeOf (q .1 h));
-  read-unchanged = λ b old r place e. memory-unchanged rowOf (tableOf b) old r place (refused-of (settled rowOf (tableOf b) (length old)) r place e);
-  write-refused = λ row m r place.
-      let q = memory-refused tableBytes (tableOfRow row) m r place in (λ e. q .0 (refused-of (settled tableBytes (tableOfRow row) m) r place e), λ h. ap codeOf (q .1 h));
-  write-unchanged = λ row old r place e. memory-unchanged tableBytes (tableOfRow row) old r place (refused-of (settled tableBytes (tableOfRow row) (length old)) r place e);
+  question-refused = λ b t limit m r place. by-numbers (questionAnswer b t limit m) r place (question-refused b t limit m r place);
+  question-unchanged = λ b t limit entry exit a r place g e. unchanged b t limit entry exit a r place g (same-answer a (Refused r place) e);
+  check-refused = λ b t x r place. by-numbers (checkAnswer b t x) r place (check-refused b t x r place);
+  read-refused = λ b m r place. by-numbers (settled rowOf (tableOf b) m) r place (memory-refused rowOf (tableOf b) m r place);
+  read-unchanged = λ b old r place e. memory-unchanged rowOf (tableOf b) old r place (same-answer (settled rowOf (tableOf b) (length old)) (Refused r place) e);
+  write-refused = λ row m r place. by-numbers (settled tableBytes (tableOfRow row) m) r place (memory-refused tableBytes (tableOfRow row) m r place);
+  write-unchanged = λ row old r place e. memory-unchanged tableBytes (tableOfRow row) old r place (same-answer (settled tableBytes (tableOfRow row) (length old)) (Refused r place) e);
 }
 
 -- ---- sound input
@@ -91,11 +92,11 @@ module _ (b : List ℕ) (facts : List Fact) (t : Fact) (limit m : ℕ) (s : Soun
   -- yes or long carries the fewest
   follows-fewest : (f : ℕ) → Follows (questionAnswer b t limit m) f → fewest facts t ≡ some f
   follows-fewest f =
-      ⊎-elim (λ (y : YesWith (questionAnswer b t limit m) f). yes-fewest b t facts sound-is limit m f (yes-of (questionAnswer b t limit m) f y) .0)
-      (λ (y : LongWith (questionAnswer b t limit m) f). long-fewest b t facts sound-is limit m f (long-of (questionAnswer b t limit m) f y))
+      ⊎-elim (λ (y : YesWith (questionAnswer b t limit m) f). yes-fewest b t facts sound-is limit m f (same-answer (questionAnswer b t limit m) (Yes f) y) .0)
+      (λ (y : LongWith (questionAnswer b t limit m) f). long-fewest b t facts sound-is limit m f (same-answer (questionAnswer b t limit m) (Long f) y))
 
   no-none : SaysNo (questionAnswer b t limit m) → fewest facts t ≡ none
-  no-none e = no-fewest b t facts sound-is limit m (no-of (questionAnswer b t limit m) e)
+  no-none e = no-fewest b t facts sound-is limit m (same-answer (questionAnswer b t limit m) No e)
 
   formed : (f : Fact) → f ∈ facts → T (wellFormed f)
   formed = accepted-formed b t facts sound-is
@@ -123,7 +124,7 @@ checked : (b : List ℕ) (facts : List Fact) (t : Fact) (x : List ℕ) (c : ℕ)
     → AcceptedWith (checkAnswer b t x) c ↔ ((d : List Line) × (x ≡ derivationBytes d) × (0 < length d) × (length d ≤ 2047) × Derives Rule facts d t × (tableLines d ≡ c))
 checked b facts t x c s w =
     let a = check-accepts b facts t x c (sound-table b facts .1 s) (fault-none t .1 w) in (
-      λ e. let j = a .0 (accepted-of (checkAnswer b t x) c e) in (j .derivation, j .bytes, j .some-line, j .short, j .derives, j .count),
+      λ e. let j = a .0 (same-answer (checkAnswer b t x) (Accepted c) e) in (j .derivation, j .bytes, j .some-line, j .short, j .derives, j .count),
       λ h. ap codeOf (a .1 (record { derivation = h .0; bytes = h .1; some-line = h .2; short = h .3; derives = h .4; count = h .5 })),
     )
 
@@ -186,7 +187,7 @@ module _ (b : List ℕ) (facts : List Fact) (t : Fact) (limit : ℕ) (entry exit
       × InOrder d × Derives Rule facts d t × AcceptedWith (checkAnswer b t (derivationBytes d)) f
   given-printed f h =
       let is = sound-is b facts t limit (length entry) s in
-      let yes : questionAnswer b t limit (length entry) ≡ Yes f = sym (g .answer) ∙ yes-of a f h in
+      let yes : questionAnswer b t limit (length entry) ≡ Yes f = sym (g .answer) ∙ same-answer a (Yes f) h in
       let q = yes-fewest b t facts is limit (length entry) f yes in
       let p = fewest-prints b t facts is f (q .0) in
       let d = p .derivation in

@@ -151,6 +151,10 @@ module _ (b : List ℕ) (facts : List Fact) (t : Fact) (x : List ℕ) (n : ℕ) 
   abbrev Stepped : ℕ → Type 0
   Stepped i = (j : ℕ) → j < i → Justified Rule facts (linesOf x j) (lineAt x j)
 
+  stepped : (j : ℕ) → stepVerdict facts x j ≡ Sound → Justified Rule facts (linesOf x j) (lineAt x j)
+  unfolding stepVerdict
+  stepped j e = justified-says facts (linesOf x j) (lineAt x j) (T-of (justified facts (linesOf x j) (lineAt x j)) (passed-test _ Step e))
+
   end-says : (r : Refusal) (place : ℕ) → Laid → Stepped n → endAnswer t x n ≡ Refused r place → CheckRefused b t x r place
   unfolding endAnswer
   end-says r place laid steps e =
@@ -163,17 +167,14 @@ module _ (b : List ℕ) (facts : List Fact) (t : Fact) (x : List ℕ) (n : ℕ) 
 
   steps-say : (c : Scan) (r : Refusal) (place : ℕ) → Laid → scan (stepVerdict facts x) 0 n ≡ c → after c (endAnswer t x n) ≡ Refused r place → CheckRefused b t x r place
   unfolding after stepVerdict
-  steps-say (Passes m) r place laid z e =
-      end-says r place laid (λ j h. justified-says facts (linesOf x j) (lineAt x j) (T-of (justified facts (linesOf x j) (lineAt x j)) (passed-test _ Step (rw zero-add at (scan-sound (stepVerdict facts x) n 0 m z j h))))) e
+  steps-say (Passes m) r place laid z e = end-says r place laid (λ j h. stepped j (rw zero-add at (scan-sound (stepVerdict facts x) n 0 m z j h))) e
   steps-say (Stops q p) r place laid z e =
       let i : q ≡ r = cc in
       let j : p ≡ place = cc in
       let k = scan-stopped (stepVerdict facts x) n q p .0 z in
       let v = by-test (justified facts (linesOf x (k .line)) (lineAt x (k .line))) Step q (k .refuses) in
       rw (← i, ← j, ← v .1, k .counted)
-      (refusals.by-step s w l (k .within) laid
-      (λ j h. justified-says facts (linesOf x j) (lineAt x j) (T-of (justified facts (linesOf x j) (lineAt x j)) (passed-test _ Step (k .sound j h))))
-      (λ y. rw (v .0) at (justified-is y)))
+      (refusals.by-step s w l (k .within) laid (λ j h. stepped j (k .sound j h)) (λ y. rw (v .0) at (justified-is y)))
 
   forms-say : (c : Scan) (r : Refusal) (place : ℕ) → scan (formVerdict x) 0 n ≡ c → after c (after (scan (stepVerdict facts x) 0 n) (endAnswer t x n)) ≡ Refused r place → CheckRefused b t x r place
   unfolding after formVerdict
@@ -186,7 +187,8 @@ module _ (b : List ℕ) (facts : List Fact) (t : Fact) (x : List ℕ) (n : ℕ) 
       let v = by-test (laidOut 6 x (31 * k .line)) Form q (k .refuses) in
       rw (← i, ← j, ← v .1, k .counted) (refusals.by-form s w l (k .within) (λ j h. passed-test _ Form (k .sound j h)) (v .0))
 
-derivation-says : (b : List ℕ) (facts : List Fact) (t : Fact) (x : List ℕ) (r : Refusal) (place : ℕ) → SoundTable b facts → T (wellFormed t) → derivationAnswer facts t x ≡ Refused r place → CheckRefused b t x r place
+derivation-says : (b : List ℕ) (facts : List Fact) (t : Fact) (x : List ℕ) (r : Refusal) (place : ℕ) → SoundTable b facts → T (wellFormed t)
+    → derivationAnswer facts t x ≡ Refused r place → CheckRefused b t x r place
 unfolding derivationAnswer linesAnswer
 derivation-says b facts t x r place s w e =
     by-cases (ltb 0 (length x) && sized 31 63457 (length x))
@@ -196,7 +198,8 @@ derivation-says b facts t x r place s w e =
     let j : 0 ≡ place = cc in
     rw (← i, ← j) (refusals.by-size s w (λ n l. let z : true ≡ false = sym (lines-size x n l .0) ∙ y in let k : _≡_ {A = ℕ} 0 1 = cc in omega arith)))
 
-fact-says : (b : List ℕ) (facts : List Fact) (t : Fact) (x : List ℕ) (v : Verdict) (r : Refusal) (place : ℕ) → SoundTable b facts → faultOf t ≡ v → factAnswer v (derivationAnswer facts t x) ≡ Refused r place
+fact-says : (b : List ℕ) (facts : List Fact) (t : Fact) (x : List ℕ) (v : Verdict) (r : Refusal) (place : ℕ) → SoundTable b facts → faultOf t ≡ v
+    → factAnswer v (derivationAnswer facts t x) ≡ Refused r place
     → CheckRefused b t x r place
 unfolding factAnswer
 fact-says b facts t x Sound r place s z e = derivation-says b facts t x r place s (fault-none t .0 z) e

@@ -26,6 +26,7 @@ fn pack(a: Answer) -> u64
     c.number as u64 + PLACE * c.place as u64 + COUNT * c.count as u64
 }
 
+// The fact of three terms.
 fn fact_of(subject: u32, predicate: u32, object: u32) -> Fact
     ensures { λ r. ⌜ r ≡ fact subject predicate object ⌝ }
 {
@@ -90,37 +91,21 @@ pub struct Confirmed {
     pub verdict: Answer,
 }
 
-// An answer that printed nothing.
-fn unchecked(a: Answer) -> Confirmed
-    ensures { λ r. ⌜ (r .answer ≡ a) × (r .verdict ≡ a) ⌝ }
-{
-    Confirmed {
-        answer: a,
-        verdict: a,
-    }
-}
-
-// The bytes of a derivation line.
-const LINE_BYTES: usize = 31;
-
 // Puts a question and hands what a yes printed to the check; any other answer is its own verdict.
 pub fn confirm(table: &[u8], fact: Fact, limit: u32, output: &mut [u8]) -> Confirmed
     ensures { λ r. ⌜ Confirms (now (table .entry)) fact limit (now (output .entry)) (now (output .exit)) r ⌝ }
 {
     let a = search::question(table, fact, limit, output);
-    match a {
-        Answer::Yes(f) => {
-            let used = LINE_BYTES * (2 * f as usize - 1);
-            let v = checker::check(table, fact, &output[..used]);
-            Confirmed {
-                answer: Answer::Yes(f),
-                verdict: v,
-            }
-        }
-        Answer::No => unchecked(Answer::No),
-        Answer::Long(f) => unchecked(Answer::Long(f)),
-        Answer::Done(n) => unchecked(Answer::Done(n)),
-        Answer::Accepted(n) => unchecked(Answer::Accepted(n)),
-        Answer::Refused(r, place) => unchecked(Answer::Refused(r, place)),
+    let Answer::Yes(f) = a else {
+        return Confirmed {
+            answer: a,
+            verdict: a,
+        };
+    };
+    let used = derivation::LINE_BYTES * (2 * f as usize - 1);
+    let v = checker::check(table, fact, &output[..used]);
+    Confirmed {
+        answer: a,
+        verdict: v,
     }
 }
