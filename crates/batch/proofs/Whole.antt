@@ -249,11 +249,16 @@ torn-output b none = go (layoutOf b) refl
     go Torn e = rw e
     go (Parts size n) e = absurd (none _ _ (layout-laid b size n e))
 
+-- an input that is not torn has the whole questions behind its table, in at most 32,768 bytes
+pub layout-questions : (b : List ℕ) (size n : ℕ) → layoutOf b ≡ Parts size n → (length b ≤ 32768) × (n ≡ questionsBehind b size)
+layout-questions b size n e =
+    let d = layout-divided b size n e in
+    let p = parts-say b (16 * (0 + d .1 .line)) size n (d .1 .parts) in
+    (d .0, rw (p .0) (p .1))
+
 -- the calls of `reply` for each question, one behind the other, write the whole output
 pub replies-output : (b : List ℕ) (size n m : ℕ) → layoutOf b ≡ Parts size n → longest ≤ m → outputOf b ≡ flat (λ k. replyIn b size k m) (itemsFrom (λ k. k) 0 n)
 unfolding outputOf outputBy
 replies-output b size n m e h =
-    let d = layout-divided b size n e .1 in
-    let p = parts-say b (16 * (0 + d .line)) size n (d .parts) in
-    let there : n ≡ questionsBehind b size = rw (p .0) (p .1) in
-    rw e (flat-same (reply b size) (λ k. replyIn b size k m) n 0 (λ k l. sym (reply-fits b size k m h (omega (arith, there)))))
+    let there = layout-questions b size n e .1 in
+    rw e (flat-same (reply b size) (λ k. replyIn b size k m) n 0 (λ k l. sym (reply-fits b size k m h (omega arith))))

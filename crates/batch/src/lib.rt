@@ -163,14 +163,10 @@ fn derivation_bytes(f: u32) -> usize
 fn reply_bytes(a: Answer) -> usize
     ensures { λ r. ⌜ r ≡ replySize a ⌝ }
 {
-    match a {
-        Answer::Yes(f) => LINE_BYTES + derivation_bytes(f),
-        Answer::No => LINE_BYTES,
-        Answer::Long(_) => LINE_BYTES,
-        Answer::Done(_) => LINE_BYTES,
-        Answer::Accepted(_) => LINE_BYTES,
-        Answer::Refused(_, _) => LINE_BYTES,
-    }
+    let Answer::Yes(f) = a else {
+        return LINE_BYTES;
+    };
+    LINE_BYTES + derivation_bytes(f)
 }
 
 // Writes the reply to a question about the table into the front of the output, and gives its length.

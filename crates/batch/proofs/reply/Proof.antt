@@ -48,11 +48,12 @@ same-length c = search needs
 returns-3 : tie.Need-returns-3
 unfolding reply
 returns-3 c =
-    let s = c .before .before .before .before .before .before .before .before .before .before .before in
-    let b = now (s .args .input) in
-    let there : s .args .k < questionsBehind b (s .args .size) = rw (← c .before .before .before .before .before .before .before .bytes-behind .ensures) (c .before .before .before .before .before .before .if2 .left) in
-    let e : replyIn b (s .args .size) (s .args .k) (length (now (s .args .out))) ≡ replyTo (take (s .args .size) b) (c .before .before .before .before .before .question-at .result) =
-    reply-fits b (s .args .size) (s .args .k) _ (c .before .before .before .before .before .before .before .before .if1 .left) there ∙ rw (c .before .before .before .before .before .question-at .ensures) in
+    let q = c .before .before .before .before .before in
+    let args = q .before .before .before .before .before .before .args in
+    let b = now (args .input) in
+    let there : args .k < questionsBehind b (args .size) = rw (← q .before .before .bytes-behind .ensures) (q .before .if2 .left) in
+    let e : replyIn b (args .size) (args .k) (length (now (args .out))) ≡ replyTo (take (args .size) b) (q .question-at .result) =
+    reply-fits b (args .size) (args .k) _ (q .before .before .before .if1 .left) there ∙ rw (q .question-at .ensures) in
     let p = c .before .before .put-reply .ensures in
     (p .0 ∙ rw e, p .1 ∙ rw e)
 

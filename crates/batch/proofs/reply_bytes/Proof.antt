@@ -1,13 +1,32 @@
--- `batch::reply_bytes` meets its contract: case by case.
+-- `batch::reply_bytes` meets its contract: a yes has its derivation behind the first line, and any other answer is one line.
 -- Assumes nothing.
+use mathlib.Core.Path.{_≡_, refl, ap}
+use mathlib.Core.List.{[], _∷_}
 use Prim.Native.Nat.{_+_}
-use mathlib.Core.Path.{ap}
+use types.Run.{OneOf, miss}
+use denote.Enum.Declared.{tagOf}
 use borrow.Author.Needs.{needs}
+use Rattle.facts.specs.declared.Answer.{Answer}
+use Rattle.facts.specs.declared.Answer.the-variants.{Done, Yes, No, Long, Accepted, Refused}
+use Rattle.facts.proofs.Answer.{the-type}
+use Rattle.batch.specs.Output.{replySize}
 use Rattle.batch.proofs.reply_bytes.Statement.{statement}
 use Rattle.batch.proofs.reply_bytes.Tie as tie
 
+-- any variant but the second, a yes
+one-line : (a : Answer) → OneOf (0 ∷ 2 ∷ 3 ∷ 4 ∷ 5 ∷ []) (tagOf the-type a) → 16 ≡ replySize a
+one-line (Yes f) k = absurd (miss (0 ∷ 2 ∷ 3 ∷ 4 ∷ 5 ∷ []) 1 tt k)
+one-line No k = refl
+one-line (Long f) k = refl
+one-line (Done n) k = refl
+one-line (Accepted n) k = refl
+one-line (Refused r place) k = refl
+
 enum-known-a : tie.Need-enum-known-a
 enum-known-a c = search needs
+
+returns : tie.Need-returns
+returns c = one-line (c .before .args .a) (c .match .keys2)
 
 derivation-bytes-requires : tie.Need-derivation-bytes-requires
 derivation-bytes-requires c κs = search needs
@@ -15,54 +34,9 @@ derivation-bytes-requires c κs = search needs
 add-result : tie.Need-add-result
 add-result c = search needs
 
-enum-told : tie.Need-enum-told
-enum-told c = search needs
-
-enum-told-2 : tie.Need-enum-told-2
-enum-told-2 c = search needs
-
-enum-told-3 : tie.Need-enum-told-3
-enum-told-3 c = search needs
-
-enum-told-4 : tie.Need-enum-told-4
-enum-told-4 c = search needs
-
-enum-told-5 : tie.Need-enum-told-5
-enum-told-5 c = search needs
-
-returns : tie.Need-returns
-returns c = rw (c .before .before .a .given .1) (ap (λ k. 16 + k) (c .derivation-bytes .ensures))
-
 returns-2 : tie.Need-returns-2
-returns-2 c = search needs
-
-returns-3 : tie.Need-returns-3
-returns-3 c = search needs
-
-returns-4 : tie.Need-returns-4
-returns-4 c = search needs
-
-returns-5 : tie.Need-returns-5
-returns-5 c = search needs
-
-returns-6 : tie.Need-returns-6
-returns-6 c = search needs
+returns-2 c = rw (c .before .before .a .given .1) (ap (λ k. 16 + k) (c .derivation-bytes .ensures))
 
 pub reply-bytes-spec : {M : Type 1} → statement M
 reply-bytes-spec =
-    tie.close
-    (tie.spec
-    enum-known-a
-    derivation-bytes-requires
-    add-result
-    enum-told
-    enum-told-2
-    enum-told-3
-    enum-told-4
-    enum-told-5
-    returns
-    returns-2
-    returns-3
-    returns-4
-    returns-5
-    returns-6)
+    tie.close (tie.spec enum-known-a returns derivation-bytes-requires add-result returns-2)

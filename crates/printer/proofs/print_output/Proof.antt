@@ -29,7 +29,8 @@ print-replies-requires : tie.Need-print-replies-requires
 print-replies-requires c κs = parts-few (now (c .before .before .before .before .before .args .input)) _ _ (sym (c .before .before .before .layout .ensures) ∙ c .before .table .given .1)
 
 returns : tie.Need-returns
-returns c = torn-length (now (c .before .before .before .before .before .before .before .args .input)) (sym (c .before .before .before .before .before .layout .ensures) ∙ c .before .before .before .enum-told .given .1)
+returns c = torn-length (now (c .before .before .before .before .before .before .before .args .input))
+    (sym (c .before .before .before .before .before .layout .ensures) ∙ c .before .before .before .enum-told .given .1)
 
 returns-2 : tie.Need-returns-2
 returns-2 c =

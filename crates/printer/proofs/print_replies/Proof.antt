@@ -19,6 +19,10 @@ Inv-loop input table questions out₀ printed₀ k₀ out printed k = (k ≤ que
 abbrev μ-loop : tie.MeasureT-loop
 μ-loop input table questions out₀ printed₀ k₀ out printed k = questions - k
 
+-- a reply is within the memory for it
+fits : (c : tie.After-reply Inv-loop μ-loop) → c .reply .result ≤ 63473
+fits c = let e = c .reply .ensures in omega (arith, e .0, simp length-append at (ap length (e .1)))
+
 reply-space-requires : tie.Need-reply-space-requires Inv-loop μ-loop
 reply-space-requires c κs = search needs
 
@@ -33,16 +37,16 @@ reply-requires : tie.Need-reply-requires Inv-loop μ-loop
 reply-requires c κs = search needs
 
 array-share-prefix-out : tie.Need-array-share-prefix-out Inv-loop μ-loop
-array-share-prefix-out c = let e = c .before .reply .ensures in let few = simp length-append at (ap length (e .1)) in omega (arith, e .0, few)
+array-share-prefix-out c = omega (arith, fits (c .before))
 
 slice-aggregate-write-all : tie.Need-slice-aggregate-write-all Inv-loop μ-loop
-slice-aggregate-write-all c = let e = c .before .before .reply .ensures in let few = simp length-append at (ap length (e .1)) in rw length-take (omega (arith, e .0, few))
+slice-aggregate-write-all c = rw length-take (omega (arith, fits (c .before .before)))
 
 write-all-requires : tie.Need-write-all-requires Inv-loop μ-loop
 write-all-requires c κs = search needs
 
 add-printed : tie.Need-add-printed Inv-loop μ-loop
-add-printed c = let e = c .before .before .before .reply .ensures in let few = simp length-append at (ap length (e .1)) in omega (arith, e .0, few)
+add-printed c = omega (arith, fits (c .before .before .before))
 
 add-k : tie.Need-add-k Inv-loop μ-loop
 add-k c = omega arith
@@ -55,13 +59,11 @@ loop-again c =
     let s = c .before .before .before .before .before .before .before .before .before in
     let l = c .before .before .before .before .before .before .loop in
     let r = c .before .before .before .reply in
-    let e = r .ensures in
-    let few = simp length-append at (ap length (e .1)) in
     let input = now (s .args .input) in
     let table = s .args .table in
-    let size : r .result ≡ length (replyIn input table (l .k) 63473) = e .0 ∙ rw (← l .inv .1) in
+    let size : r .result ≡ length (replyIn input table (l .k) 63473) = r .ensures .0 ∙ rw (← l .inv .1) in
     let more = flat-more (λ k. replyIn input table k 63473) (λ k. k) (l .k) in
-    (omega arith, l .inv .1 ∙ sym (r .kept .1 .1 .1 .0), rw (more, length-append) (omega (arith, size, l .inv .2)), omega (arith, e .0, few))
+    (omega arith, l .inv .1 ∙ sym (r .kept .1 .1 .1 .0), rw (more, length-append) (omega (arith, size, l .inv .2)), omega (arith, fits (c .before .before .before)))
 
 returns : tie.Need-returns Inv-loop μ-loop
 returns c = let e : c .before .loop .k ≡ c .before .before .before .before .args .questions = omega arith in c .before .loop .inv .2 ∙ rw e
