@@ -169,7 +169,8 @@ fn reply_bytes(a: Answer) -> usize
     LINE_BYTES + derivation_bytes(f)
 }
 
-// Writes the reply to a question about the table into the front of the output, and gives its length.
+// Writes the reply to a question about the table into the front of the output, and gives its length. The output behind the first
+// line is the question's paper.
 fn put_reply(table: &[u8], q: Question, out: &mut [u8]) -> usize
     requires { ⌜ longest ≤ length (now out) ⌝ }
     ensures length { λ r. ⌜ r ≡ length (replyTo (now (table .entry)) q) ⌝ }

@@ -51,6 +51,7 @@ RefusedWith a r place = Says a (numberOf r) place 0
 
 -- ---- sound input: said of what it is, not of the program's tests
 
+-- limit is document 01's allowance, m the bytes of its paper
 pub record SoundInput (b : List ℕ) (facts : List Fact) (t : Fact) (limit m : ℕ) : Type 0 where
   pub table : SoundTable b facts
   pub fact : T (wellFormed t)

@@ -33,7 +33,7 @@ pub data MemoryRefused (content : List Fact → List ℕ) (t : Table) (m : ℕ) 
   by-table : {r : Refusal} {place : ℕ} → t ≡ refused r place → MemoryRefused content t m r place
   by-room : {facts : List Fact} → t ≡ accepted facts → m < length (content facts) → MemoryRefused content t m Short 0
 
--- a question: the table's, the triple's, 7, 8
+-- a question: the table's, the triple's, 7 for the limit (document 01's allowance), 8 for m bytes of output (its paper)
 pub data QuestionRefused (b : List ℕ) (t : Fact) (limit m : ℕ) : Refusal → ℕ → Type 0 where
   by-table : {r : Refusal} {place : ℕ} → tableOf b ≡ refused r place → QuestionRefused b t limit m r place
   by-fact : {facts : List Fact} {r : Refusal} → SoundTable b facts → FactRefused t r → QuestionRefused b t limit m r 0

@@ -12,7 +12,7 @@ ghost use Rattle.search.specs.Question.{questionAnswer, outputAfter};
 ghost use Rattle.entail.specs.Packed.{packed, Small};
 ghost use Rattle.entail.specs.Confirms.{Confirms};
 
-// The bits of a place and of a count begin here.
+// The bits of a place (document 01's: a line's number, or 0) and of a count begin here.
 const PLACE: u64 = 256;
 
 const COUNT: u64 = 4294967296;
@@ -53,7 +53,7 @@ pub extern "C" fn factbox_question(
     pack(search::question(table, fact_of(subject, predicate, object), limit, output))
 }
 
-// Judges a derivation.
+// Judges a derivation of the fact from the table.
 #[no_mangle]
 pub extern "C" fn factbox_check(
     table: &[u8],
@@ -91,7 +91,8 @@ pub struct Confirmed {
     pub verdict: Answer,
 }
 
-// Puts a question and hands what a yes printed to the check; any other answer is its own verdict.
+// Puts a question and hands what a yes printed to the check; any other answer is its own verdict. As above, limit is the
+// allowance and output the paper.
 pub fn confirm(table: &[u8], fact: Fact, limit: u32, output: &mut [u8]) -> Confirmed
     ensures { λ r. ⌜ Confirms (now (table .entry)) fact limit (now (output .entry)) (now (output .exit)) r ⌝ }
 {

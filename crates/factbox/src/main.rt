@@ -6,12 +6,14 @@ ghost use lib.ListN.{length};
 // The most bytes of an input, and one more, so that too much is noticed.
 const INPUT_SPACE: usize = batch::INPUT_BYTES + 1;
 
+// Memory for an input.
 fn input_space() -> [u8; INPUT_SPACE]
     ensures { λ r. ⌜ 32769 ≡ length r ⌝ }
 {
     [0u8; INPUT_SPACE]
 }
 
+// Reads the input and prints its output.
 fn main() {
     let mut input = input_space();
     let size = io::read_full(STDIN_FILENO, &mut input);

@@ -11,6 +11,7 @@ const INPUT_SPACE: usize = batch::INPUT_BYTES + 1;
 
 const INPUTS: u32 = 1000;
 
+// Memory for an input.
 fn input_space() -> [u8; INPUT_SPACE]
     ensures { λ r. ⌜ 32769 ≡ length r ⌝ }
 {
@@ -38,6 +39,7 @@ fn run_next() -> bool {
     true
 }
 
+// Runs the inputs one after the other.
 fn main() {
     let mut left = INPUTS;
     while 0 < left {

@@ -37,18 +37,22 @@ const NUMBERS: usize = 4096;
 
 const BYTES: usize = 17000;
 
+// Memory for all cases.
 fn input_memory() -> [u8; 81920] {
     [0u8; 81920]
 }
 
+// Lent numbers before a call.
 fn number_memory() -> [u32; NUMBERS] {
     [NUMBER_BEFORE; NUMBERS]
 }
 
+// Lent bytes before a call.
 fn byte_memory() -> [u8; BYTES] {
     [BYTE_BEFORE; BYTES]
 }
 
+// A row of zeros, into which a case's numbers are put.
 fn zero_row() -> [u32; NUMBERS] {
     [0u32; NUMBERS]
 }
@@ -214,6 +218,7 @@ fn run(input: &[u8]) {
     }
 }
 
+// Reads the cases and runs them.
 fn main() {
     let mut input = input_memory();
     let n = io::read_full(STDIN_FILENO, &mut input);
