@@ -61,7 +61,7 @@ mul-used-2 : tie.Need-mul-used-2
 mul-used-2 c = search needs
 
 slice-reshare-prefix-check : tie.Need-slice-reshare-prefix-check
-slice-reshare-prefix-check c = checked c .room
+slice-reshare-prefix-check c = omega (arith, checked c .room)
 
 slice-aggregate-check : tie.Need-slice-aggregate-check
 slice-aggregate-check c = simp length-take (omega (arith, checked (c .before) .room))
