@@ -90,6 +90,16 @@ Vs = List Val × (List Val × (List Val × Unit {0}))
 abbrev stayed : Stays (fill′.ended .signature .params) (fill′.ended .kept)
 stayed = (stay-none-slice (0 ∷ []) tt (plain (λ _. u32)) yes, (stay-slice (1 ∷ []) tt (plain (λ _. T.the-row)), (stay-none (λ _. usize) yes, tt)))
 
+-- locals that hold nothing, and then Γ
+abbrev rooms : {M : Type 1} {𝓤 : URA M} → List (Ty × ℕ) → List (Item 𝓤) → List (Item 𝓤)
+rooms [] Γ = Γ
+rooms ((τ, l) ∷ E) Γ = ‵ (froom τ l 0) ∷ rooms E Γ
+
+-- locals that die where the body ends
+abbrev deaths : {M : Type 1} {𝓤 : URA M} → List (Ty × ℕ) → List (Item 𝓤)
+deaths [] = []
+deaths ((τ, l) ∷ E) = ‵ (fdies τ l) ∷ deaths E
+
 -- what a turn needs of the numbers
 record Fit (ws : List ℕ) (fs : List Fact) (i : ℕ) : Type 0 where
   k : 3 * i < 2 ^ 64
@@ -191,22 +201,21 @@ module _ {M : Type 1} (𝓤 : URA M) (H : Heap 𝓤) (A : Atoms 𝓤) (W : Given
       abbrev Λ : Loops 𝓤 H
       Λ = 𝓣 .Λ
 
+      -- the locals of a turn, and all
+      abbrev Turn : Env 𝓤 H
+      Turn = (word, l₅) ∷ (tyBool, l₆) ∷ (word, l₇) ∷ (tyPtr, l₈) ∷ (num, l₉) ∷ (word, l₁₀) ∷ (word, l₁₁) ∷ (tyPtr, l₁₂) ∷ (num, l₁₃) ∷ (word, l₁₄)
+          ∷ (word, l₁₅) ∷ (tyPtr, l₁₆) ∷ (num, l₁₇) ∷ (T′.mir, l₁₈) ∷ (word, l₁₉) ∷ (tyPtr, l₂₀) ∷ []
+
       abbrev En : Env 𝓤 H
-      En = (tyUnit, l₀) ∷ (rowTy, l₁) ∷ (factsTy, l₂) ∷ (word, l₃) ∷ (word, l₄) ∷ (word, l₅) ∷ (tyBool, l₆) ∷ (word, l₇) ∷ (tyPtr, l₈) ∷ (num, l₉) ∷ (word, l₁₀)
-          ∷ (word, l₁₁) ∷ (tyPtr, l₁₂) ∷ (num, l₁₃) ∷ (word, l₁₄) ∷ (word, l₁₅) ∷ (tyPtr, l₁₆) ∷ (num, l₁₇) ∷ (T′.mir, l₁₈) ∷ (word, l₁₉) ∷ (tyPtr, l₂₀) ∷ []
+      En = (tyUnit, l₀) ∷ (rowTy, l₁) ∷ (factsTy, l₂) ∷ (word, l₃) ∷ (word, l₄) ∷ Turn
 
       -- i records are filled
       abbrev At : ℕ → List (Item 𝓤)
-      At i = ‵ (row T.the-row fullShare (filled i ws fs) b o) ∷ ‵ (row u32 q′ ws b₁ o₁) ∷ ‵ (fat fullShare word l₄ 0 (vint w64 i)) ∷ ‵ (froom word l₅ 0)
-          ∷ ‵ (froom tyBool l₆ 0) ∷ ‵ (froom word l₇ 0) ∷ ‵ (froom tyPtr l₈ 0) ∷ ‵ (froom num l₉ 0) ∷ ‵ (froom word l₁₀ 0) ∷ ‵ (froom word l₁₁ 0)
-          ∷ ‵ (froom tyPtr l₁₂ 0) ∷ ‵ (froom num l₁₃ 0) ∷ ‵ (froom word l₁₄ 0) ∷ ‵ (froom word l₁₅ 0) ∷ ‵ (froom tyPtr l₁₆ 0) ∷ ‵ (froom num l₁₇ 0)
-          ∷ ‵ (froom T′.mir l₁₈ 0) ∷ ‵ (froom word l₁₉ 0) ∷ ‵ (froom tyPtr l₂₀ 0) ∷ ‵ (fat fullShare rowTy l₁ 0 (sliceVal (b₁, o₁) (length ws)))
-          ∷ ‵ (fat fullShare factsTy l₂ 0 (sliceVal (b, o) (length fs))) ∷ ‵ (fat fullShare word l₃ 0 (vint w64 n)) ∷ ‵ (froom tyUnit l₀ 0)
-          ∷ ‵ (fobor κ₂ q₂ (Held T.the-row (length fs) b o γ)) ∷ ‵ (fobs γ (codedHoleys T.the-row .code (heres T.the-row fs)))
-          ∷ ‵ (fauth γ (codedHoleys T.the-row .code (heres T.the-row fs))) ∷ ‵ (fobor κ₁ q₁ (arr-parts (shares u32) (length ws) .part q′ ws b₁ o₁)) ∷ ‵ X₂ ∷ ‵ X₁
-          ∷ ‵ F₁ ∷ ‵ R₂ ∷ ‵ (fdies tyUnit l₀) ∷ ‵ (fdies rowTy l₁) ∷ ‵ (fdies factsTy l₂) ∷ ‵ (fdies word l₃) ∷ ‵ (fdies word l₄) ∷ ‵ (fdies word l₅)
-          ∷ ‵ (fdies tyBool l₆) ∷ ‵ (fdies word l₇) ∷ ‵ (fdies tyPtr l₈) ∷ ‵ (fdies num l₉) ∷ ‵ (fdies word l₁₀) ∷ ‵ (fdies word l₁₁) ∷ ‵ (fdies tyPtr l₁₂)
-          ∷ ‵ (fdies num l₁₃) ∷ ‵ (fdies word l₁₄) ∷ ‵ (fdies word l₁₅) ∷ ‵ (fdies tyPtr l₁₆) ∷ ‵ (fdies num l₁₇) ∷ ‵ (fdies T′.mir l₁₈) ∷ ‵ (fdies word l₁₉) ∷ ‵ (fdies tyPtr l₂₀) ∷ []
+      At i = ‵ (row T.the-row fullShare (filled i ws fs) b o) ∷ ‵ (row u32 q′ ws b₁ o₁) ∷ ‵ (fat fullShare word l₄ 0 (vint w64 i))
+          ∷ rooms Turn (‵ (fat fullShare rowTy l₁ 0 (sliceVal (b₁, o₁) (length ws))) ∷ ‵ (fat fullShare factsTy l₂ 0 (sliceVal (b, o) (length fs)))
+          ∷ ‵ (fat fullShare word l₃ 0 (vint w64 n)) ∷ ‵ (froom tyUnit l₀ 0) ∷ ‵ (fobor κ₂ q₂ (Held T.the-row (length fs) b o γ))
+          ∷ ‵ (fobs γ (codedHoleys T.the-row .code (heres T.the-row fs))) ∷ ‵ (fauth γ (codedHoleys T.the-row .code (heres T.the-row fs)))
+          ∷ ‵ (fobor κ₁ q₁ (arr-parts (shares u32) (length ws) .part q′ ws b₁ o₁)) ∷ ‵ X₂ ∷ ‵ X₁ ∷ ‵ F₁ ∷ ‵ R₂ ∷ deaths En)
 
       abbrev Inv : ℕ → SProp 𝓤
       Inv t = ex 𝓤 (λ (i : ℕ). guard 𝓤 (i + t ≡ n) (⋆ 𝓤 H A (At i)))
