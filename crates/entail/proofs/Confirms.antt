@@ -1,46 +1,41 @@
 -- What a yes printed is accepted by the check, with the same count.
 -- Assumes nothing.
 use mathlib.Core.Path.{_≡_, refl, sym, ap, _∙_}
-use mathlib.Core.Bool.{cond}
 use mathlib.Core.List.{List}
 use Prim.Native.Nat.{ℕ, _+_, _-_, _*_, _≤_, _<_}
 use native.Mathlib.Omega.{arith}
 use lib.ListN.{length, take, drop, length-append}
 use lib.Seq.{take-at}
-use lib.Dec.{leb}
-use borrow.Author.Tests.{leb-true}
+use lib.Dec.{T}
 use Rattle.facts.specs.declared.Fact.{Fact}
-use Rattle.facts.specs.declared.Refusal.the-variants.{Allowance, Short}
 use Rattle.facts.specs.declared.Verdict.{Verdict}
 use Rattle.facts.specs.declared.Verdict.the-variants.{Sound, Faulty}
 use Rattle.facts.specs.declared.Answer.{Answer}
 use Rattle.facts.specs.declared.Answer.the-variants.{Yes, Accepted}
-use Rattle.facts.specs.Facts.{faultOf}
+use Rattle.facts.specs.Facts.{wellFormed, faultOf}
 use Rattle.facts.specs.Answers.{codeOf}
-use Rattle.facts.proofs.Terms.{by-cases}
 use Rattle.facts.proofs.Facts.{fault-none}
 use Rattle.table.specs.Judged.{orElse}
 use Rattle.table.specs.Tables.{Table, accepted, refused, tableOf}
 use Rattle.derivation.specs.Bytes.{derivationBytes}
 use Rattle.derivation.proofs.Bytes.{derivation-length}
 use Rattle.checker.specs.Check.{checkAnswer}
-use Rattle.search.specs.Question.{needed, questionFault, asked, answerOf, unless, answerFrom, questionAnswer, Answered}
+use Rattle.search.specs.Question.{questionFault, asked, answerOf, unless, answerFrom, questionAnswer, Answered}
+use Rattle.search.proofs.Answered.{asked-sound}
 use Rattle.entail.specs.Demands.{SoundInput}
 use Rattle.entail.proofs.Codes.{same-answer}
 use Rattle.entail.proofs.Refusals.{sound-table}
 use Rattle.entail.proofs.Demands.{demand-3}
 
--- a yes comes from sound input alone
-asked-sound : (limit m : ℕ) (v : Verdict) → orElse v (cond (leb limit 1024) (cond (leb (needed limit) m) Sound (Faulty Short)) (Faulty Allowance)) ≡ Sound
-    → (v ≡ Sound) × (limit ≤ 1024) × (needed limit ≤ m)
-unfolding orElse
-asked-sound limit m (Faulty r) e = let z : _≡_ {A = ℕ} 0 1 = cc in absurd (omega arith)
-asked-sound limit m Sound e =
-    by-cases (leb limit 1024)
-    (λ y. by-cases (leb (needed limit) m)
-    (λ x. (refl, leb-true _ _ y, leb-true _ _ x))
-    (λ x. let u : Faulty Short ≡ Sound = rw (y, x) at e in let z : _≡_ {A = ℕ} 0 1 = cc in absurd (omega arith)))
-    (λ y. let u : Faulty Allowance ≡ Sound = rw y at e in let z : _≡_ {A = ℕ} 0 1 = cc in absurd (omega arith))
+-- ---- a yes comes from sound input alone
+
+asked-formed : (t : Fact) (limit m : ℕ) → asked t limit m ≡ Sound → T (wellFormed t)
+unfolding asked orElse questionFault
+asked-formed t limit m e = go (faultOf t) refl
+  where
+    go : (v : Verdict) → faultOf t ≡ v → T (wellFormed t)
+    go Sound z = fault-none t .0 z
+    go (Faulty r) z = let u : Faulty r ≡ Sound = rw z at e in let k : _≡_ {A = ℕ} 0 1 = cc in absurd (omega arith)
 
 unless-yes : (v : Verdict) (a : Answer) (f : ℕ) → unless v a ≡ Yes f → v ≡ Sound
 unfolding unless
@@ -48,11 +43,14 @@ unless-yes Sound a f e = refl
 unless-yes (Faulty r) a f e = let z : _≡_ {A = ℕ} 0 1 = cc in absurd (omega arith)
 
 yes-sound : (b : List ℕ) (t : Fact) (limit m f : ℕ) (u : Table) → tableOf b ≡ u → answerFrom u t limit m ≡ Yes f → (facts : List Fact) × SoundInput b facts t limit m
-unfolding answerFrom asked questionFault
+unfolding answerFrom
 yes-sound b t limit m f (refused r place) z e = let k : _≡_ {A = ℕ} 0 1 = cc in absurd (omega arith)
 yes-sound b t limit m f (accepted facts) z e =
-    let s = asked-sound limit m (faultOf t) (unless-yes (asked t limit m) (answerOf facts t limit) f e) in
-    (facts, record { table = sound-table b facts .0 z; fact = fault-none t .0 (s .0); limited = s .1; room = s .2 })
+    let s = unless-yes (asked t limit m) (answerOf facts t limit) f e in
+    let l = asked-sound t limit m s in
+    (facts, record { table = sound-table b facts .0 z; fact = asked-formed t limit m s; limited = l .0; room = l .1 })
+
+-- ---- what it printed
 
 -- what a yes with f printed: 2 f - 1 lines in front of the output, which the check accepts with f
 pub record Checked (b : List ℕ) (t : Fact) (f : ℕ) (exit : List ℕ) : Type 0 where
