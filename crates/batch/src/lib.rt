@@ -8,7 +8,6 @@ ghost use Prim.Native.Nat.{_+_, _*_, _≤_};
 ghost use lib.ListN.{length};
 ghost use Rattle.columns.specs.Lines.{line, over};
 ghost use Rattle.batch.specs.Input.{isZeroLine, bytesBehind, allLaid, partsBehind, layoutOf, questionAt};
-ghost use Rattle.search.specs.Question.{needed};
 ghost use Rattle.batch.specs.Output.{codeLine, replySize, longest, replyTo, replyIn};
 
 // The most bytes of an input.
@@ -149,16 +148,6 @@ fn put_code(a: Answer, out: &mut [u8])
     columns::put_line(&numbers, out);
 }
 
-// The bytes of a derivation with f table lines: 2 f - 1 lines.
-fn derivation_bytes(f: u32) -> usize
-    ensures { λ r. ⌜ r ≡ needed f ⌝ }
-{
-    if f == 0 {
-        return 0;
-    }
-    derivation::LINE_BYTES * (2 * (f as usize) - 1)
-}
-
 // The bytes of the reply with an answer.
 fn reply_bytes(a: Answer) -> usize
     ensures { λ r. ⌜ r ≡ replySize a ⌝ }
@@ -166,7 +155,7 @@ fn reply_bytes(a: Answer) -> usize
     let Answer::Yes(f) = a else {
         return LINE_BYTES;
     };
-    LINE_BYTES + derivation_bytes(f)
+    LINE_BYTES + search::needed_for(f)
 }
 
 // Writes the reply to a question about the table into the front of the output, and gives its length. The output behind the first

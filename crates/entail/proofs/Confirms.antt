@@ -54,7 +54,6 @@ yes-sound b t limit m f (accepted facts) z e =
 
 -- what a yes with f printed: 2 f - 1 lines in front of the output, which the check accepts with f
 pub record Checked (b : List ℕ) (t : Fact) (f : ℕ) (exit : List ℕ) : Type 0 where
-  pub some : 0 < f
   pub room : 31 * (2 * f - 1) ≤ length exit
   pub accepted : checkAnswer b t (take (31 * (2 * f - 1)) exit) ≡ Accepted f
 
@@ -68,7 +67,6 @@ yes-checked b t limit f entry exit a g e =
     let used : length bytes ≡ n = omega (arith, derivation-length (p .0), p .2) in
     let long : length exit ≡ length bytes + length rest = ap length (p .1) ∙ length-append bytes _ in
     record {
-      some = omega (arith, p .2);
       room = omega arith;
       accepted = ap (λ x. checkAnswer b t x) (ap (take n) (p .1) ∙ take-at bytes rest n used) ∙ same-answer (checkAnswer b t bytes) (Accepted f) (p .6);
     }

@@ -103,7 +103,7 @@ pub fn confirm(table: &[u8], fact: Fact, limit: u32, output: &mut [u8]) -> Confi
             verdict: a,
         };
     };
-    let used = derivation::LINE_BYTES * (2 * f as usize - 1);
+    let used = search::needed_for(f);
     let v = checker::check(table, fact, &output[..used]);
     Confirmed {
         answer: a,

@@ -736,9 +736,9 @@ fn print(row: &[u32], n: usize, f: usize, path: &[u16], out: &mut [u8])
     }
 }
 
-// The bytes of output that a limit asks for: those of 2 x limit - 1 lines, and none for 0.
-fn needed_for(limit: u32) -> usize
-    requires { ⌜ limit ≤ 1024 ⌝ }
+// The bytes of output that a limit asks for, and those of a derivation with so many table lines: 2 x limit - 1 lines, and none
+// for 0.
+pub fn needed_for(limit: u32) -> usize
     ensures { λ r. ⌜ r ≡ needed limit ⌝ }
 {
     if limit == 0 {

@@ -28,15 +28,15 @@ enum-known-a c = search needs
 returns : tie.Need-returns
 returns c = one-line (c .before .args .a) (c .match .keys2)
 
-derivation-bytes-requires : tie.Need-derivation-bytes-requires
-derivation-bytes-requires c κs = search needs
+needed-for-requires : tie.Need-needed-for-requires
+needed-for-requires c κs = search needs
 
 add-result : tie.Need-add-result
 add-result c = search needs
 
 returns-2 : tie.Need-returns-2
-returns-2 c = rw (c .before .before .a .given .1) (ap (λ k. 16 + k) (c .derivation-bytes .ensures))
+returns-2 c = rw (c .before .before .a .given .1) (ap (λ k. 16 + k) (c .needed-for .ensures))
 
 pub reply-bytes-spec : {M : Type 1} → statement M
 reply-bytes-spec =
-    tie.close (tie.spec enum-known-a returns derivation-bytes-requires add-result returns-2)
+    tie.close (tie.spec enum-known-a returns needed-for-requires add-result returns-2)

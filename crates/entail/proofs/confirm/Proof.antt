@@ -48,23 +48,14 @@ same-length c = search needs
 returns : tie.Need-returns
 returns c = let q = c .before .before .before .question in record { answered = q .ensures; verdict = alone (q .result) (c .match .keys2) }
 
-cast-used : tie.Need-cast-used
-cast-used c = search needs
-
-mul-used : tie.Need-mul-used
-mul-used c = search needs
-
-sub-used : tie.Need-sub-used
-sub-used c = omega (arith, checked c .some)
-
-mul-used-2 : tie.Need-mul-used-2
-mul-used-2 c = search needs
+needed-for-requires : tie.Need-needed-for-requires
+needed-for-requires c κs = search needs
 
 slice-reshare-prefix-check : tie.Need-slice-reshare-prefix-check
-slice-reshare-prefix-check c = omega (arith, checked c .room)
+slice-reshare-prefix-check c = omega (arith, checked (c .before) .room, c .needed-for .ensures)
 
 slice-aggregate-check : tie.Need-slice-aggregate-check
-slice-aggregate-check c = simp length-take (omega (arith, checked (c .before) .room))
+slice-aggregate-check c = simp length-take (omega (arith, checked (c .before .before) .room, c .before .needed-for .ensures))
 
 check-requires : tie.Need-check-requires
 check-requires c κs = search needs
@@ -76,8 +67,8 @@ returns-2 : tie.Need-returns-2
 unfolding confirmed
 returns-2 c =
     record {
-      answered = rw (← c .before .before .before .a .given .1) (c .before .before .before .before .before .before .before .question .ensures);
-      verdict = c .check .ensures ∙ checked (c .before .before) .accepted;
+      answered = rw (← c .before .before .before .before .a .given .1) (c .before .before .before .before .before .before .before .before .question .ensures);
+      verdict = c .check .ensures ∙ rw (c .before .before .needed-for .ensures) (checked (c .before .before .before) .accepted);
     }
 
 pub confirm-spec : {M : Type 1} → statement M
@@ -88,10 +79,7 @@ confirm-spec =
     enum-known-a
     same-length
     returns
-    cast-used
-    mul-used
-    sub-used
-    mul-used-2
+    needed-for-requires
     slice-reshare-prefix-check
     slice-aggregate-check
     check-requires
