@@ -29,8 +29,8 @@ use Rattle.table.specs.Tables.{Table, accepted, refused, lineFact, lineVerdict,
 use Rattle.table.proofs.Rows.{accepted-size}
 use Rattle.table.proofs.Tables.{Stopped, tableOf-refused, line-refused, table-place}
 use Rattle.rules.specs.Paths.{fewest}
-use Rattle.search.specs.Question.{needed, questionFault, asked, answerBy, answerOf, unless, answerFrom, questionAnswer, printedFrom}
-use Rattle.search.proofs.Answered.{fewest-meant}
+use Rattle.question.specs.Question.{needed, questionFault, asked, answerBy, answerOf, unless, answerFrom, questionAnswer, printedFrom}
+use Rattle.question.proofs.Answered.{fewest-meant}
 use Rattle.batch.specs.declared.Question.{Question}
 use Rattle.batch.specs.Output.{codeLine, behindCode, replyTo}
 

@@ -1,4 +1,4 @@
+pub mod Codes
 pub mod Inputs
 pub mod Replies
-pub mod Codes
 pub mod Whole

@@ -15,8 +15,8 @@ use Rattle.facts.specs.declared.Answer.{Answer}
 use Rattle.facts.specs.declared.Answer.the-variants.{Done, Yes, No, Long, Accepted, Refused}
 use Rattle.table.specs.Tables.{Table, accepted, refused, tableOf}
 use Rattle.table.proofs.Rows.{accepted-size}
-use Rattle.search.specs.Question.{needed, answerFrom, questionAnswer, printedFrom, written, outputAfter, Answered}
-use Rattle.search.proofs.Answered.{yes-fewest, fewest-meant, prints-length}
+use Rattle.question.specs.Question.{needed, answerFrom, questionAnswer, printedFrom, written, outputAfter, Answered}
+use Rattle.question.proofs.Answered.{yes-fewest, fewest-meant, prints-length}
 use Rattle.batch.specs.declared.Question.{Question}
 use Rattle.batch.specs.Input.{questionsBehind}
 use Rattle.batch.specs.Output.{codeLine, behindCode, replySize, replyTo, reply, longest, replyIn}

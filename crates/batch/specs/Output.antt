@@ -10,7 +10,7 @@ use Rattle.facts.specs.declared.Answer.{Answer}
 use Rattle.facts.specs.declared.Answer.the-variants.{Done, Yes, No, Long, Accepted, Refused}
 use Rattle.facts.specs.Answers.{codeOf}
 use Rattle.table.specs.Tables.{tableOf}
-use Rattle.search.specs.Question.{needed, questionAnswer, printedFrom}
+use Rattle.question.specs.Question.{needed, questionAnswer, printedFrom}
 use Rattle.batch.specs.declared.Input.{Input}
 use Rattle.batch.specs.declared.Input.the-variants.{Torn, Parts}
 use Rattle.batch.specs.declared.Question.{Question}

@@ -23,10 +23,10 @@ fn input_space() -> [u8; INPUT_BYTES] {
 
 // Prints the number, place and count of an answer.
 fn show(a: Answer) {
-    let code = facts::code_of(a);
+    let code = codes::code_of(a);
     let numbers = [code.number, code.place, code.count];
     let mut line = [0u8; ANSWER_BYTES];
-    columns::put_line(&numbers, &mut line);
+    field_writer::put_line(&numbers, &mut line);
     io::write_all(STDOUT_FILENO, &line);
 }
 
@@ -34,9 +34,9 @@ fn show(a: Answer) {
 fn fact_put(input: &[u8], at: usize) -> Fact
     requires { ⌜ at + 15 ≤ length (now input) ⌝ }
 {
-    let subject = columns::number_at(input, at);
-    let predicate = columns::number_at(input, at + 5);
-    let object = columns::number_at(input, at + 10);
+    let subject = field_reader::number_at(input, at);
+    let predicate = field_reader::number_at(input, at + 5);
+    let object = field_reader::number_at(input, at + 10);
     Fact {
         subject: subject,
         predicate: predicate,
@@ -50,16 +50,16 @@ fn run_case(input: &[u8], at: usize) -> usize
     ensures { λ r. ⌜ (at < r) × (r ≤ length (now (input .entry))) ⌝ }
 {
     let end = input.len();
-    if !columns::is_laid_out(HEAD_FIELDS, input, at) {
+    if !field_reader::is_laid_out(HEAD_FIELDS, input, at) {
         return end;
     }
     let table = at + HEAD_BYTES;
-    let table_bytes = columns::number_at(input, at) as usize;
+    let table_bytes = field_reader::number_at(input, at) as usize;
     if end - table < table_bytes {
         return end;
     }
     let derivation = table + table_bytes;
-    let derivation_bytes = columns::number_at(input, at + 5) as usize;
+    let derivation_bytes = field_reader::number_at(input, at + 5) as usize;
     if end - derivation < derivation_bytes {
         return end;
     }

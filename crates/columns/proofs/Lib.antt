@@ -1,5 +1,5 @@
 pub mod Fields
 pub mod Columns
 pub mod Lines
-pub mod Parts
 pub mod Lists
+pub mod Parts

@@ -33,9 +33,9 @@ use Rattle.rules.specs.Derivations.{tableLines}
 use Rattle.rules.specs.Steps.{same}
 use Rattle.derivation.specs.Bytes.{lineAt}
 use Rattle.rules.specs.Paths.{fewest}
-use Rattle.search.specs.Question.{asked, answerBy, answerOf, unless, answerFrom, questionAnswer}
-use Rattle.search.proofs.Answered.{fewest-meant}
-use Rattle.checker.specs.Check.{linesOf, formVerdict, stepVerdict, after, endAnswer, linesAnswer, derivationAnswer, factAnswer, tableAnswer, checkAnswer}
+use Rattle.question.specs.Question.{asked, answerBy, answerOf, unless, answerFrom, questionAnswer}
+use Rattle.question.proofs.Answered.{fewest-meant}
+use Rattle.acceptance.specs.Check.{linesOf, formVerdict, stepVerdict, after, endAnswer, linesAnswer, derivationAnswer, factAnswer, tableAnswer, checkAnswer}
 use Rattle.entail.specs.Packed.{packed, unpacked, Small}
 
 -- what is packed is unpacked again

@@ -6,8 +6,8 @@ use Prim.Native.Nat.{ℕ}
 use Rattle.facts.specs.declared.Fact.{Fact}
 use Rattle.facts.specs.Answers.{codeOf}
 use Rattle.table.specs.Tables.{rowOf, tableBytes, tableOf, tableOfRow, settled}
-use Rattle.checker.specs.Check.{checkAnswer}
-use Rattle.search.specs.Question.{questionAnswer}
+use Rattle.acceptance.specs.Check.{checkAnswer}
+use Rattle.question.specs.Question.{questionAnswer}
 use Rattle.entail.specs.Packed.{packed, unpacked}
 use Rattle.entail.proofs.Small.{unpack-pack, read-small, write-small, check-small, question-small}
 

@@ -1,5 +1,1 @@
 pub mod Packed
-pub mod Refusals
-pub mod Demands
-pub mod Confirms
-pub mod Cases

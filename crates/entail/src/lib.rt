@@ -7,10 +7,9 @@ ghost use lib.ListN.{length};
 ghost use Rattle.facts.specs.Facts.{fact};
 ghost use Rattle.facts.specs.Answers.{codeOf};
 ghost use Rattle.table.specs.Tables.{rowOf, tableBytes, tableOf, tableOfRow, settled, filled};
-ghost use Rattle.checker.specs.Check.{checkAnswer};
-ghost use Rattle.search.specs.Question.{questionAnswer, outputAfter};
+ghost use Rattle.acceptance.specs.Check.{checkAnswer};
+ghost use Rattle.question.specs.Question.{questionAnswer, outputAfter};
 ghost use Rattle.entail.specs.Packed.{packed, Small};
-ghost use Rattle.entail.specs.Confirms.{Confirms};
 
 // The bits of a place (document 01's: a line's number, or 0) and of a count begin here.
 const PLACE: u64 = 256;
@@ -22,7 +21,7 @@ fn pack(a: Answer) -> u64
     requires { ⌜ Small (codeOf a) ⌝ }
     ensures { λ r. ⌜ r ≡ packed (codeOf a) ⌝ }
 {
-    let c = facts::code_of(a);
+    let c = codes::code_of(a);
     c.number as u64 + PLACE * c.place as u64 + COUNT * c.count as u64
 }
 
@@ -73,7 +72,7 @@ pub extern "C" fn factbox_read(table: &[u8], row: &mut [u32]) -> u64
     ensures answer { λ r. ⌜ r ≡ packed (codeOf (settled rowOf (tableOf (now (table .entry))) (length (now (row .entry))))) ⌝ }
     ensures row { λ _. ⌜ now (row .exit) ≡ filled rowOf (tableOf (now (table .entry))) (now (row .entry)) ⌝ }
 {
-    pack(table::read(table, row))
+    pack(reader::read(table, row))
 }
 
 // Writes the table of a row's facts.
@@ -82,31 +81,5 @@ pub extern "C" fn factbox_write(row: &[u32], output: &mut [u8]) -> u64
     ensures answer { λ r. ⌜ r ≡ packed (codeOf (settled tableBytes (tableOfRow (now (row .entry))) (length (now (output .entry))))) ⌝ }
     ensures bytes { λ _. ⌜ now (output .exit) ≡ filled tableBytes (tableOfRow (now (row .entry))) (now (output .entry)) ⌝ }
 {
-    pack(table::write(row, output))
-}
-
-// What a question answers, and what the check says of the derivation that it printed.
-pub struct Confirmed {
-    pub answer: Answer,
-    pub verdict: Answer,
-}
-
-// Puts a question and hands what a yes printed to the check; any other answer is its own verdict. As above, limit is the
-// allowance and output the paper.
-pub fn confirm(table: &[u8], fact: Fact, limit: u32, output: &mut [u8]) -> Confirmed
-    ensures { λ r. ⌜ Confirms (now (table .entry)) fact limit (now (output .entry)) (now (output .exit)) r ⌝ }
-{
-    let a = search::question(table, fact, limit, output);
-    let Answer::Yes(f) = a else {
-        return Confirmed {
-            answer: a,
-            verdict: a,
-        };
-    };
-    let used = search::needed_for(f);
-    let v = checker::check(table, fact, &output[..used]);
-    Confirmed {
-        answer: a,
-        verdict: v,
-    }
+    pack(writer::write(row, output))
 }

@@ -4,7 +4,7 @@ ghost use mathlib.Core.Path.{_≡_};
 ghost use lib.ListN.{length};
 
 // The most bytes of an input, and one more, so that too much is noticed.
-const INPUT_SPACE: usize = batch::INPUT_BYTES + 1;
+const INPUT_SPACE: usize = input::INPUT_BYTES + 1;
 
 // Memory for an input.
 fn input_space() -> [u8; INPUT_SPACE]

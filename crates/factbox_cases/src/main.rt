@@ -7,7 +7,7 @@ ghost use lib.ListN.{length};
 // The bytes of a line with a length; the most bytes of an input, and one more; the most inputs.
 const HEADER: usize = 6;
 
-const INPUT_SPACE: usize = batch::INPUT_BYTES + 1;
+const INPUT_SPACE: usize = input::INPUT_BYTES + 1;
 
 const INPUTS: u32 = 1000;
 
@@ -30,7 +30,7 @@ fn run_next() -> bool {
     if io::read_full(STDIN_FILENO, &mut header) < HEADER {
         return false;
     }
-    let n = columns::number_at(&header, 0) as usize;
+    let n = field_reader::number_at(&header, 0) as usize;
     let mut input = input_space();
     if INPUT_SPACE < n {
         return false;

@@ -1,6 +1,6 @@
 -- Laws of facts: the ranges of well-formed terms, no fault exactly where well-formed, and a strict total order.
 -- Assumes nothing.
-use mathlib.Core.Path.{_≡_, refl, sym}
+use mathlib.Core.Path.{_≡_, sym}
 use mathlib.Core.Logic.{_↔_, _⊎_, inl, inr}
 use mathlib.Core.Bool.{Bool, true, false, not, cond, _&&_, _||_}
 use Prim.Native.Nat.{ℕ, _≤_, _<_}

@@ -1,8 +1,8 @@
 // What the program prints for an input (document 01, "Panel and program"), to standard output. What the bytes are is proved in
 // `batch`; here they are written, piece by piece.
 use batch::Input;
-use batch::REPLY_BYTES;
 use libc::STDOUT_FILENO;
+use replies::REPLY_BYTES;
 ghost use mathlib.Core.Path.{_≡_};
 ghost use Prim.Native.Nat.{_≤_};
 ghost use lib.ListN.{length};
@@ -25,7 +25,7 @@ fn print_replies(input: &[u8], table: usize, questions: usize) -> usize
     let mut printed = 0;
     let mut k = 0;
     while k < questions {
-        let size = batch::reply(input, table, k, &mut out);
+        let size = replies::reply(input, table, k, &mut out);
         io::write_all(STDOUT_FILENO, &out[..size]);
         printed += size;
         k += 1;
@@ -37,9 +37,9 @@ fn print_replies(input: &[u8], table: usize, questions: usize) -> usize
 pub fn print_output(input: &[u8]) -> usize
     ensures { λ r. ⌜ r ≡ length (outputOf (now (input .entry))) ⌝ }
 {
-    match batch::layout(input) {
+    match input::layout(input) {
         Input::Torn => {
-            let line = batch::refusal();
+            let line = replies::refusal();
             io::write_all(STDOUT_FILENO, &line);
             line.len()
         }

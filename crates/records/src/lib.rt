@@ -3,6 +3,8 @@
 use facts::Answer;
 use facts::Fact;
 use facts::Refusal;
+use table::FIELDS;
+use table::ROW_NUMBERS;
 use table::Scan;
 ghost use mathlib.Core.Path.{_≡_};
 ghost use Prim.Native.Nat.{_*_, _≤_};
@@ -12,18 +14,13 @@ ghost use Rattle.facts.specs.Answers.{codeOf};
 ghost use Rattle.table.specs.Tables.{rowOf, rowFact, tableOf, loaded};
 ghost use Rattle.records.specs.Records.{overRecords, settledRecords, filledRecords};
 
-// The numbers of a fact, and the most in a table.
-const FIELDS: usize = 3;
-
-const ROW_NUMBERS: usize = 3072;
-
 // Reads a table into a row of numbers, and answers where so many records are lent.
 fn read_row(bytes: &[u8], lent: usize, row: &mut [u32]) -> Answer
     requires { ⌜ 3072 ≤ length (now row) ⌝ }
     ensures answer { λ r. ⌜ r ≡ settledRecords (tableOf (now (bytes .entry))) lent ⌝ }
     ensures facts { λ _. ⌜ now (row .exit) ≡ over (rowOf (loaded (now (bytes .entry)))) (now (row .entry)) ⌝ }
 {
-    match table::load(bytes, row) {
+    match reader::load(bytes, row) {
         Scan::Stops(r, place) => Answer::Refused(r, place),
         Scan::Passes(n) => {
             if lent < n as usize {
@@ -38,7 +35,7 @@ fn read_row(bytes: &[u8], lent: usize, row: &mut [u32]) -> Answer
 fn count_of(answer: Answer) -> usize
     ensures { λ r. ⌜ r ≡ codeOf answer .count ⌝ }
 {
-    let code = facts::code_of(answer);
+    let code = codes::code_of(answer);
     code.count as usize
 }
 

@@ -65,9 +65,9 @@ fn read_some(bytes: &[u8], lent: usize, mut facts: [Fact; RECORDS]) -> Filled
 fn fact_at(table: &[u8], at: usize) -> Fact
     requires { ⌜ at + 15 ≤ length (now table) ⌝ }
 {
-    let subject = columns::number_at(table, at);
-    let predicate = columns::number_at(table, at + 5);
-    let object = columns::number_at(table, at + 10);
+    let subject = field_reader::number_at(table, at);
+    let predicate = field_reader::number_at(table, at + 5);
+    let object = field_reader::number_at(table, at + 10);
     Fact {
         subject: subject,
         predicate: predicate,
@@ -112,12 +112,12 @@ fn read_case(table: &[u8], lent: usize)
     let filled = read_some(table, lent, records_before());
     let answer = filled.answer;
     let facts = filled.facts;
-    let code = facts::code_of(answer);
+    let code = codes::code_of(answer);
     let count = code.count;
     let due = are_due(table, count as usize, facts);
     let numbers = [code.number, code.place, count, due as u32];
     let mut line = [0u8; ANSWER_BYTES];
-    columns::put_line(&numbers, &mut line);
+    field_writer::put_line(&numbers, &mut line);
     io::write_all(STDOUT_FILENO, &line);
 }
 
@@ -127,15 +127,15 @@ fn run_case(input: &[u8], at: usize) -> usize
     ensures { λ r. ⌜ (at < r) × (r ≤ length (now (input .entry))) ⌝ }
 {
     let end = input.len();
-    if !columns::is_laid_out(HEAD_FIELDS, input, at) {
+    if !field_reader::is_laid_out(HEAD_FIELDS, input, at) {
         return end;
     }
     let table = at + HEAD_BYTES;
-    let table_bytes = columns::number_at(input, at) as usize;
+    let table_bytes = field_reader::number_at(input, at) as usize;
     if end - table < table_bytes {
         return end;
     }
-    let lent = columns::number_at(input, at + 5) as usize;
+    let lent = field_reader::number_at(input, at + 5) as usize;
     if RECORDS < lent {
         return end;
     }

@@ -18,8 +18,7 @@ use Rattle.facts.proofs.Terms.{by-cases, T-of, of-T}
 use Rattle.rules.specs.Graph.{_∈_, any, Path, first, step, nodes, layer, least}
 use Rattle.rules.specs.Paths.{named, HasPath, start, next, goal, fewest}
 use Rattle.rules.specs.Printed.{behind, printOrder, Printable}
-use Rattle.rules.specs.Chosen.{firstOf, arrives, leads, back, backFrom, wayOf, chosenBy, chosenOf, chosen, factIn, PathPlaces, placeBehind, printPlaces}
-use Rattle.rules.specs.Chosen.{Along, begin, go-on, NotBehind, same, lower, agree}
+use Rattle.rules.specs.Chosen.{firstOf, arrives, leads, back, backFrom, wayOf, chosenBy, chosenOf, chosen, factIn, PathPlaces, placeBehind, printPlaces, Along, begin, go-on, NotBehind, same, lower, agree}
 use Rattle.rules.proofs.Tests.{any-in, in-any}
 use Rattle.rules.proofs.Graph.{Answer, least-answer, layer-path, path-layer, end-in, place, at-place}
 use Rattle.rules.proofs.Printed.{path-pos, path-printable}

@@ -1,9 +1,9 @@
-pub mod Tests
-pub mod Graph
-pub mod Derivations
-pub mod Steps
-pub mod Paths
-pub mod Joins
-pub mod Printed
-pub mod Fewest
 pub mod Chosen
+pub mod Derivations
+pub mod Fewest
+pub mod Graph
+pub mod Joins
+pub mod Paths
+pub mod Printed
+pub mod Steps
+pub mod Tests

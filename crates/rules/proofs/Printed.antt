@@ -19,8 +19,7 @@ use Rattle.rules.specs.Graph.{_∈_, Path, first, step, nodes}
 use Rattle.rules.specs.Rules.{sp-sp, sp-data, sc-sc, sc-type, dom-data, range-data}
 use Rattle.rules.specs.Paths.{named, link, property, chain, next, typed, onlyTable, start, goal, ways, HasPath}
 use Rattle.rules.specs.Printed.{Printable, behind, printOrder}
-use Rattle.rules.proofs.Paths.{plain, link-vocabulary, link-data, property-data, property-of, start-data, start-other, next-says, Follows}
-use Rattle.rules.proofs.Paths.{goal-says, only-path, only-says, chain-name, chain-property, Open, is-sc, is-sp, is-type, open-of}
+use Rattle.rules.proofs.Paths.{plain, link-vocabulary, link-data, property-data, property-of, start-data, start-other, next-says, Follows, goal-says, only-path, only-says, chain-name, chain-property, Open, is-sc, is-sp, is-type, open-of}
 use Rattle.rules.proofs.Joins.{Joined, on-first, on-second, Joins, done, more, Linear, printable}
 
 -- ---- one more fact

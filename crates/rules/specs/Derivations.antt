@@ -8,8 +8,8 @@ use Prim.Native.Nat.{ℕ, zero, suc, _≤_}
 use lib.ListN.{length}
 use lib.Dec.{eqb}
 use Rattle.facts.specs.declared.Fact.{Fact}
-pub use Rattle.rules.specs.declared.Line.{Line}
 use Rattle.rules.specs.Graph.{_∈_, keep}
+pub use Rattle.rules.specs.declared.Line.{Line}
 
 -- a list of rules: rule n gives r from p and q
 abbrev pub Relation : Type 1

@@ -1,8 +1,8 @@
-pub mod Graph
-pub mod Rules
-pub mod Derivations
-pub mod Order
-pub mod Steps
-pub mod Paths
 pub mod Chosen
+pub mod Derivations
+pub mod Graph
+pub mod Order
+pub mod Paths
 pub mod Printed
+pub mod Rules
+pub mod Steps

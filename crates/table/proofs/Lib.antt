@@ -1,5 +1,5 @@
 pub mod Scans
-pub mod Torn
 pub mod Rows
 pub mod Lists
 pub mod Tables
+pub mod Torn

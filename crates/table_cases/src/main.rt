@@ -92,7 +92,7 @@ fn bytes_kept(bytes: &[u8], from: usize) -> bool
 fn show(code: Code, kept: bool) {
     let numbers = [code.number, code.place, code.count, kept as u32];
     let mut line = [0u8; CASE_BYTES];
-    columns::put_line(&numbers, &mut line);
+    field_writer::put_line(&numbers, &mut line);
     io::write_all(STDOUT_FILENO, &line);
 }
 
@@ -100,14 +100,14 @@ fn show(code: Code, kept: bool) {
 fn read_front(table: &[u8], row: &mut [u32], room: usize) -> Code
     requires { ⌜ room ≤ length (now row) ⌝ }
 {
-    facts::code_of(table::read(table, &mut row[0..room]))
+    codes::code_of(reader::read(table, &mut row[0..room]))
 }
 
 // Writes the front of a row into the front of a table's bytes.
 fn write_front(row: &[u32], size: usize, out: &mut [u8], room: usize) -> Code
     requires { ⌜ (size ≤ length (now row)) × (room ≤ length (now out)) ⌝ }
 {
-    facts::code_of(table::write(&row[0..size], &mut out[0..room]))
+    codes::code_of(writer::write(&row[0..size], &mut out[0..room]))
 }
 
 // Reads a table, and writes the row that was filled again.
@@ -133,8 +133,8 @@ fn read_case(table: &[u8], room: usize)
 fn row_number(lines: &[u8], at: usize) -> u32
     requires { ⌜ at + 11 ≤ length (now lines) ⌝ }
 {
-    let high = columns::number_at(lines, at) as u64;
-    let low = columns::number_at(lines, at + 5) as u64;
+    let high = field_reader::number_at(lines, at) as u64;
+    let low = field_reader::number_at(lines, at + 5) as u64;
     let n = high * FIVE_DIGITS + low;
     if NUMBER_LAST < n {
         return 0;
@@ -184,13 +184,13 @@ fn run_case(input: &[u8], at: usize) -> usize
     ensures { λ r. ⌜ (at < r) × (r ≤ length (now (input .entry))) ⌝ }
 {
     let end = input.len();
-    if !columns::is_laid_out(FIELDS, input, at) {
+    if !field_reader::is_laid_out(FIELDS, input, at) {
         return end;
     }
-    let kind = columns::number_at(input, at);
-    let follow = columns::number_at(input, at + 5) as usize;
-    let room = columns::number_at(input, at + 10) as usize;
-    let size = columns::number_at(input, at + 15) as usize;
+    let kind = field_reader::number_at(input, at);
+    let follow = field_reader::number_at(input, at + 5) as usize;
+    let room = field_reader::number_at(input, at + 10) as usize;
+    let size = field_reader::number_at(input, at + 15) as usize;
     let from = at + CASE_BYTES;
     if end - from < follow {
         return end;

@@ -6,8 +6,8 @@ use denote.Ref.{now}
 use borrow.Author.Needs.{needs}
 use Rattle.table.specs.Tables.{tableOf}
 use Rattle.table.proofs.Rows.{scan-passes, scan-stops}
-use Rattle.checker.specs.Check.{checkAnswer, tableAnswer, factAnswer}
-use Rattle.checker.proofs.Loaded.{loaded-facts, loaded-ascends}
+use Rattle.acceptance.specs.Check.{checkAnswer, tableAnswer, factAnswer}
+use Rattle.acceptance.proofs.Loaded.{loaded-facts, loaded-ascends}
 use Rattle.checker.proofs.check.Statement.{statement}
 use Rattle.checker.proofs.check.Tie as tie
 

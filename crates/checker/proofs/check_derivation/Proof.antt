@@ -6,8 +6,8 @@ use denote.Ref.{now}
 use borrow.Author.Tests.{lt-ltb, le-ltb}
 use borrow.Author.Needs.{needs}
 use Rattle.table.proofs.Rows.{sized-torn, sized-large, sized-fits}
-use Rattle.checker.specs.Check.{derivationAnswer}
-use Rattle.checker.proofs.Sizes.{nonempty}
+use Rattle.acceptance.specs.Check.{derivationAnswer}
+use Rattle.acceptance.proofs.Sizes.{nonempty}
 use Rattle.checker.proofs.check_derivation.Statement.{statement}
 use Rattle.checker.proofs.check_derivation.Tie as tie
 

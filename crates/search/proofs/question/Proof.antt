@@ -7,7 +7,7 @@ use lib.ListN.{length}
 use Rattle.facts.specs.declared.Fact.{Fact}
 use Rattle.table.specs.Tables.{tableOf, accepted}
 use Rattle.table.proofs.Rows.{scan-passes, scan-stops}
-use Rattle.search.proofs.Answered.{answered-table, answered-refused, answered-settled, asked-sound, loaded-facts, loaded-sorted}
+use Rattle.question.proofs.Answered.{answered-table, answered-refused, answered-settled, asked-sound, loaded-facts, loaded-sorted}
 use borrow.Author.Needs.{needs}
 use Rattle.search.proofs.question.Statement.{statement}
 use Rattle.search.proofs.question.Tie as tie

@@ -1,7 +1,7 @@
 -- `search::settle` meets its contract: the chosen path's places are put in printed order and printed, where the count is within the limit.
 -- Assumes nothing.
 use native.Mathlib.Omega.{arith}
-use Rattle.search.proofs.Places.{found-few, found-placed, print-placed, settle-long, settle-yes, settle-no}
+use Rattle.question.proofs.Places.{found-few, found-placed, print-placed, settle-long, settle-yes, settle-no}
 use borrow.Author.Needs.{needs}
 use Rattle.search.proofs.settle.Statement.{statement}
 use Rattle.search.proofs.settle.Tie as tie

@@ -3,7 +3,7 @@
 use mathlib.Core.Path.{sym, _∙_}
 use borrow.Author.Tests.{le-leb, lt-leb}
 use Rattle.table.specs.Judged.{orElse}
-use Rattle.search.specs.Question.{needed, asked, questionFault}
+use Rattle.question.specs.Question.{needed, asked, questionFault}
 use borrow.Author.Needs.{needs}
 use Rattle.search.proofs.verdict.Statement.{statement}
 use Rattle.search.proofs.verdict.Tie as tie

@@ -1,0 +1,6 @@
+pub mod Lines
+pub mod Lookup
+pub mod Accepts
+pub mod Loaded
+pub mod Pass
+pub mod Sizes

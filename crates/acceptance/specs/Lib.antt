@@ -1,0 +1,3 @@
+pub mod Holds
+pub mod Near
+pub mod Check

@@ -1,3 +1,0 @@
-pub mod Check
-pub mod Holds
-pub mod Near

@@ -1,0 +1,50 @@
+// An answer's number, place and count (document 01's table of numbers).
+use facts::Answer;
+use facts::Code;
+use facts::Refusal;
+ghost use mathlib.Core.Path.{_≡_};
+ghost use Rattle.facts.specs.Answers.{codeOf, numberOf, numbered};
+
+// Document 01's number for a refusal.
+fn refusal_number(r: Refusal) -> u32
+    ensures { λ n. ⌜ n ≡ numberOf r ⌝ }
+{
+    match r {
+        Refusal::Size => 1,
+        Refusal::Column => 2,
+        Refusal::Term => 3,
+        Refusal::Blank => 4,
+        Refusal::Part => 5,
+        Refusal::Order => 6,
+        Refusal::Allowance => 7,
+        Refusal::Short => 8,
+        Refusal::Form => 9,
+        Refusal::Step => 10,
+        Refusal::End => 11,
+    }
+}
+
+// A code by its three numbers.
+fn numbers(number: u32, place: u32, count: u32) -> Code
+    ensures { λ r. ⌜ r ≡ numbered number place count ⌝ }
+{
+    Code {
+        number: number,
+        place: place,
+        count: count,
+    }
+}
+
+// Document 01's number, place and count for an answer.
+pub fn code_of(a: Answer) -> Code
+    ensures { λ r. ⌜ r ≡ codeOf a ⌝ }
+{
+    match a {
+        Answer::Done(n) => numbers(0, 0, n),
+        Answer::Yes(n) => numbers(90, 0, n),
+        Answer::No => numbers(91, 0, 0),
+        Answer::Long(n) => numbers(92, 0, n),
+        Answer::Accepted(n) => numbers(93, 0, n),
+        Answer::Refused(r, p) => numbers(refusal_number(r), p, 0),
+    }
+}

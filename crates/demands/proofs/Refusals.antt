@@ -1,0 +1,271 @@
+-- Each call refuses exactly what document 01 refuses, with its number and place.
+-- Assumes nothing.
+use mathlib.Core.Path.{_≡_, refl, sym, _∙_}
+use mathlib.Core.Logic.{_↔_}
+use mathlib.Core.Bool.{Bool, true, false, cond, _&&_}
+use mathlib.Core.Option.{Option, none, some}
+use mathlib.Core.List.{List}
+use Prim.Native.Nat.{ℕ, suc, _+_, _-_, _*_, _/_, _<_}
+use native.Mathlib.Omega.{arith}
+use native.Mathlib.Nat.{zero-add}
+use lib.ListN.{length}
+use lib.Dec.{T, leb, ltb}
+use borrow.Author.Tests.{le-leb, lt-leb, leb-true, leb-false, lt-ltb, ltb-true}
+use Rattle.columns.specs.Lines.{laidOut}
+use Rattle.columns.proofs.Fields.{both}
+use Rattle.facts.specs.declared.Fact.{Fact}
+use Rattle.facts.specs.declared.Refusal.{Refusal}
+use Rattle.facts.specs.declared.Refusal.the-variants.{Allowance, Short, Form, Step, End}
+use Rattle.facts.specs.declared.Verdict.{Verdict}
+use Rattle.facts.specs.declared.Verdict.the-variants.{Sound, Faulty}
+use Rattle.facts.specs.declared.Answer.the-variants.{Done, Yes, Long, Accepted, Refused}
+use Rattle.facts.specs.Facts.{wellFormed, faultOf}
+use Rattle.facts.proofs.Terms.{by-cases, T-of, of-T}
+use Rattle.facts.proofs.Facts.{fault-none}
+use Rattle.table.specs.declared.Scan.{Scan}
+use Rattle.table.specs.declared.Scan.the-variants.{Passes, Stops}
+use Rattle.table.specs.Judged.{orElse}
+use Rattle.table.specs.Scans.{scan}
+use Rattle.table.specs.Tables.{Table, accepted, refused, sized, tableOf, settled, filled}
+use Rattle.table.proofs.Rows.{sized-fits, sized-says}
+use Rattle.table.proofs.Lists.{scan-sound, scan-all}
+use Rattle.table.proofs.Tables.{scan-stopped, tableOf-accepted}
+use Rattle.rules.specs.Rules.{Rule}
+use Rattle.rules.specs.Derivations.{Justified}
+use Rattle.rules.specs.Paths.{fewest}
+use Rattle.rules.specs.Steps.{same, justified}
+use Rattle.rules.proofs.Steps.{same-eq, same-self, justified-is, justified-says}
+use Rattle.derivation.specs.Bytes.{lineAt}
+use Rattle.acceptance.specs.Check.{linesOf, formVerdict, stepVerdict, after, endAnswer, linesAnswer, derivationAnswer, factAnswer, tableAnswer, checkAnswer}
+use Rattle.question.specs.Question.{needed, questionFault, asked, answerBy, answerOf, unless, answerFrom, questionAnswer}
+use Rattle.demands.specs.Refusals as refusals
+use Rattle.demands.specs.Refusals.{SoundTable, MemoryRefused, QuestionRefused, CheckRefused, Lines}
+
+pub sound-table : (b : List ℕ) (facts : List Fact) → tableOf b ≡ accepted facts ↔ SoundTable b facts
+sound-table b facts =
+    let t = tableOf-accepted b facts in
+    (λ e. record { bytes = t .0 e .0; sound = t .0 e .1 }, λ s. t .1 (s .bytes, s .sound))
+
+-- ---- reading and writing
+
+memory-says : (content : List Fact → List ℕ) (t u : Table) (m : ℕ) (r : Refusal) (place : ℕ) → t ≡ u → settled content u m ≡ Refused r place → MemoryRefused content t m r place
+unfolding settled
+memory-says content t (refused q p) m r place z e = let i : q ≡ r = cc in let j : p ≡ place = cc in rw (← i, ← j) (refusals.by-table z)
+memory-says content t (accepted facts) m r place z e =
+    by-cases (leb (length (content facts)) m)
+    (λ y. let u : Done (length facts) ≡ Refused r place = rw y at e in let k : _≡_ {A = ℕ} 0 1 = cc in absurd (omega arith))
+    (λ y. let u : Refused Short 0 ≡ Refused r place = rw y at e in
+    let i : Short ≡ r = cc in
+    let j : 0 ≡ place = cc in
+    rw (← i, ← j) (refusals.by-room z (leb-false _ _ y)))
+
+memory-is : {content : List Fact → List ℕ} {t : Table} {m : ℕ} {r : Refusal} {place : ℕ} → MemoryRefused content t m r place → settled content t m ≡ Refused r place
+unfolding settled
+memory-is (refusals.by-table z) = rw z
+memory-is (refusals.by-room z h) = rw (z, lt-leb _ _ h)
+
+pub memory-refused : (content : List Fact → List ℕ) (t : Table) (m : ℕ) (r : Refusal) (place : ℕ) → settled content t m ≡ Refused r place ↔ MemoryRefused content t m r place
+memory-refused content t m r place = (memory-says content t t m r place refl, memory-is)
+
+-- a refusal leaves the memory as it was
+pub memory-unchanged : (content : List Fact → List ℕ) (t : Table) (old : List ℕ) (r : Refusal) (place : ℕ) → settled content t (length old) ≡ Refused r place → filled content t old ≡ old
+unfolding settled filled
+memory-unchanged content (refused q p) old r place e = refl
+memory-unchanged content (accepted facts) old r place e =
+    by-cases (leb (length (content facts)) (length old))
+    (λ y. let u : Done (length facts) ≡ Refused r place = rw y at e in let k : _≡_ {A = ℕ} 0 1 = cc in absurd (omega arith))
+    (λ y. rw y)
+
+-- ---- the question
+
+no-refusal : (limit : ℕ) (o : Option ℕ) (r : Refusal) (place : ℕ) → answerBy limit o ≡ Refused r place → ⊥
+unfolding answerBy
+no-refusal limit none r place e = let z : _≡_ {A = ℕ} 0 1 = cc in omega arith
+no-refusal limit (some f) r place e =
+    by-cases (leb f limit)
+    (λ y. let u : Yes f ≡ Refused r place = rw y at e in let z : _≡_ {A = ℕ} 0 1 = cc in omega arith)
+    (λ y. let u : Long f ≡ Refused r place = rw y at e in let z : _≡_ {A = ℕ} 0 1 = cc in omega arith)
+
+asked-says : (b : List ℕ) (facts : List Fact) (t : Fact) (limit m : ℕ) (v : Verdict) (r : Refusal) → SoundTable b facts → faultOf t ≡ v
+    → orElse v (cond (leb limit 1024) (cond (leb (needed limit) m) Sound (Faulty Short)) (Faulty Allowance)) ≡ Faulty r → QuestionRefused b t limit m r 0
+unfolding orElse
+asked-says b facts t limit m (Faulty q) r s z e = let i : q ≡ r = cc in rw (← i) (refusals.by-fact s z)
+asked-says b facts t limit m Sound r s z e =
+    let w = fault-none t .0 z in
+    by-cases (leb limit 1024)
+    (λ y. by-cases (leb (needed limit) m)
+    (λ x. let u : Sound ≡ Faulty r = rw (y, x) at e in let k : _≡_ {A = ℕ} 0 1 = cc in absurd (omega arith))
+    (λ x. let u : Faulty Short ≡ Faulty r = rw (y, x) at e in let i : Short ≡ r = cc in rw (← i) (refusals.by-room s w (leb-true _ _ y) (leb-false _ _ x))))
+    (λ y. let u : Faulty Allowance ≡ Faulty r = rw y at e in let i : Allowance ≡ r = cc in rw (← i) (refusals.by-limit s w (leb-false _ _ y)))
+
+unless-says : (b : List ℕ) (facts : List Fact) (t : Fact) (limit m : ℕ) (v : Verdict) (r : Refusal) (place : ℕ) → SoundTable b facts → asked t limit m ≡ v
+    → unless v (answerOf facts t limit) ≡ Refused r place → QuestionRefused b t limit m r place
+unfolding unless answerOf asked questionFault
+unless-says b facts t limit m Sound r place s z e = absurd (no-refusal limit (fewest facts t) r place e)
+unless-says b facts t limit m (Faulty q) r place s z e =
+    let i : q ≡ r = cc in
+    let j : 0 ≡ place = cc in
+    rw (← j) (asked-says b facts t limit m (faultOf t) r s refl (rw i at z))
+
+question-says : (b : List ℕ) (t : Fact) (limit m : ℕ) (u : Table) (r : Refusal) (place : ℕ) → tableOf b ≡ u → answerFrom u t limit m ≡ Refused r place → QuestionRefused b t limit m r place
+unfolding answerFrom
+question-says b t limit m (refused q p) r place z e = let i : q ≡ r = cc in let j : p ≡ place = cc in rw (← i, ← j) (refusals.by-table z)
+question-says b t limit m (accepted facts) r place z e = unless-says b facts t limit m (asked t limit m) r place (sound-table b facts .0 z) refl e
+
+question-is : {b : List ℕ} {t : Fact} {limit m : ℕ} {r : Refusal} {place : ℕ} → QuestionRefused b t limit m r place → questionAnswer b t limit m ≡ Refused r place
+unfolding questionAnswer answerFrom unless asked orElse questionFault
+question-is (refusals.by-table z) = rw z
+question-is {b} (refusals.by-fact {facts} s z) = rw (sound-table b facts .1 s, z)
+question-is {b} {t} (refusals.by-limit {facts} s w h) = rw (sound-table b facts .1 s, fault-none t .1 w, lt-leb _ _ h)
+question-is {b} {t} (refusals.by-room {facts} s w h k) = rw (sound-table b facts .1 s, fault-none t .1 w, le-leb _ _ h, lt-leb _ _ k)
+
+pub question-refused : (b : List ℕ) (t : Fact) (limit m : ℕ) (r : Refusal) (place : ℕ) → questionAnswer b t limit m ≡ Refused r place ↔ QuestionRefused b t limit m r place
+question-refused b t limit m r place = (unfold questionAnswer in question-says b t limit m (tableOf b) r place refl, question-is)
+
+-- ---- the check
+
+-- the size of 1 to 2,047 lines
+size-lines : (x : List ℕ) → ltb 0 (length x) && sized 31 63457 (length x) ≡ true → Lines x (length x / 31)
+size-lines x e =
+    let p = both (ltb 0 (length x)) (sized 31 63457 (length x)) e in
+    let pos = ltb-true 0 (length x) (p .0) in
+    let fits = sized-says 31 63457 (length x) (p .1) in
+    record { size = omega arith; some-line = omega arith; short = omega arith }
+
+lines-size : (x : List ℕ) (n : ℕ) → Lines x n → (ltb 0 (length x) && sized 31 63457 (length x) ≡ true) × (length x / 31 ≡ n)
+lines-size x n l = (rw (lt-ltb 0 (length x) (omega (arith, l .size, l .some-line)), sized-fits 31 63457 (length x) (omega (arith, l .size)) (omega (arith, l .size, l .short))), omega (arith, l .size))
+
+-- a verdict by one test
+by-test : (test : Bool) (q r : Refusal) → cond test Sound (Faulty q) ≡ Faulty r → (test ≡ false) × (q ≡ r)
+by-test true q r e = let z : _≡_ {A = ℕ} 0 1 = cc in absurd (omega arith)
+by-test false q r e = (refl, cc)
+
+passed-test : (test : Bool) (q : Refusal) → cond test Sound (Faulty q) ≡ Sound → test ≡ true
+passed-test true q e = refl
+passed-test false q e = let z : _≡_ {A = ℕ} 0 1 = cc in absurd (omega arith)
+
+module _ (b : List ℕ) (facts : List Fact) (t : Fact) (x : List ℕ) (n : ℕ) (s : SoundTable b facts) (w : T (wellFormed t)) (l : Lines x n) where
+  abbrev Laid : Type 0
+  Laid = (j : ℕ) → j < n → laidOut 6 x (31 * j) ≡ true
+
+  abbrev Stepped : ℕ → Type 0
+  Stepped i = (j : ℕ) → j < i → Justified Rule facts (linesOf x j) (lineAt x j)
+
+  stepped : (j : ℕ) → stepVerdict facts x j ≡ Sound → Justified Rule facts (linesOf x j) (lineAt x j)
+  unfolding stepVerdict
+  stepped j e = justified-says facts (linesOf x j) (lineAt x j) (T-of (justified facts (linesOf x j) (lineAt x j)) (passed-test _ Step e))
+
+  end-says : (r : Refusal) (place : ℕ) → Laid → Stepped n → endAnswer t x n ≡ Refused r place → CheckRefused b t x r place
+  unfolding endAnswer
+  end-says r place laid steps e =
+      by-cases (same (lineAt x (n - 1) .fact) t)
+      (λ y. let u : Accepted _ ≡ Refused r place = rw y at e in let k : _≡_ {A = ℕ} 0 1 = cc in absurd (omega arith))
+      (λ y. let u : Refused End n ≡ Refused r place = rw y at e in
+      let i : End ≡ r = cc in
+      let j : n ≡ place = cc in
+      rw (← i, ← j) (refusals.by-end s w l laid steps (λ z. let q : same t t ≡ false = rw z at y in absurd (rw q at (same-self t)))))
+
+  steps-say : (c : Scan) (r : Refusal) (place : ℕ) → Laid → scan (stepVerdict facts x) 0 n ≡ c → after c (endAnswer t x n) ≡ Refused r place → CheckRefused b t x r place
+  unfolding after stepVerdict
+  steps-say (Passes m) r place laid z e = end-says r place laid (λ j h. stepped j (rw zero-add at (scan-sound (stepVerdict facts x) n 0 m z j h))) e
+  steps-say (Stops q p) r place laid z e =
+      let i : q ≡ r = cc in
+      let j : p ≡ place = cc in
+      let k = scan-stopped (stepVerdict facts x) n q p .0 z in
+      let v = by-test (justified facts (linesOf x (k .line)) (lineAt x (k .line))) Step q (k .refuses) in
+      rw (← i, ← j, ← v .1, k .counted)
+      (refusals.by-step s w l (k .within) laid (λ j h. stepped j (k .sound j h)) (λ y. rw (v .0) at (justified-is y)))
+
+  forms-say : (c : Scan) (r : Refusal) (place : ℕ) → scan (formVerdict x) 0 n ≡ c → after c (after (scan (stepVerdict facts x) 0 n) (endAnswer t x n)) ≡ Refused r place → CheckRefused b t x r place
+  unfolding after formVerdict
+  forms-say (Passes m) r place z e =
+      steps-say (scan (stepVerdict facts x) 0 n) r place (λ j h. passed-test _ Form (rw zero-add at (scan-sound (formVerdict x) n 0 m z j h))) refl e
+  forms-say (Stops q p) r place z e =
+      let i : q ≡ r = cc in
+      let j : p ≡ place = cc in
+      let k = scan-stopped (formVerdict x) n q p .0 z in
+      let v = by-test (laidOut 6 x (31 * k .line)) Form q (k .refuses) in
+      rw (← i, ← j, ← v .1, k .counted) (refusals.by-form s w l (k .within) (λ j h. passed-test _ Form (k .sound j h)) (v .0))
+
+derivation-says : (b : List ℕ) (facts : List Fact) (t : Fact) (x : List ℕ) (r : Refusal) (place : ℕ) → SoundTable b facts → T (wellFormed t)
+    → derivationAnswer facts t x ≡ Refused r place → CheckRefused b t x r place
+unfolding derivationAnswer linesAnswer
+derivation-says b facts t x r place s w e =
+    by-cases (ltb 0 (length x) && sized 31 63457 (length x))
+    (λ y. forms-say b facts t x (length x / 31) s w (size-lines x y) (scan (formVerdict x) 0 (length x / 31)) r place refl (rw y at e))
+    (λ y. let u : Refused Form 0 ≡ Refused r place = rw y at e in
+    let i : Form ≡ r = cc in
+    let j : 0 ≡ place = cc in
+    rw (← i, ← j) (refusals.by-size s w (λ n l. let z : true ≡ false = sym (lines-size x n l .0) ∙ y in let k : _≡_ {A = ℕ} 0 1 = cc in omega arith)))
+
+fact-says : (b : List ℕ) (facts : List Fact) (t : Fact) (x : List ℕ) (v : Verdict) (r : Refusal) (place : ℕ) → SoundTable b facts → faultOf t ≡ v
+    → factAnswer v (derivationAnswer facts t x) ≡ Refused r place
+    → CheckRefused b t x r place
+unfolding factAnswer
+fact-says b facts t x Sound r place s z e = derivation-says b facts t x r place s (fault-none t .0 z) e
+fact-says b facts t x (Faulty q) r place s z e = let i : q ≡ r = cc in let j : 0 ≡ place = cc in rw (← i, ← j) (refusals.by-fact s z)
+
+check-says : (b : List ℕ) (t : Fact) (x : List ℕ) (u : Table) (r : Refusal) (place : ℕ) → tableOf b ≡ u → tableAnswer u t x ≡ Refused r place → CheckRefused b t x r place
+unfolding tableAnswer
+check-says b t x (refused q p) r place z e = let i : q ≡ r = cc in let j : p ≡ place = cc in rw (← i, ← j) (refusals.by-table z)
+check-says b t x (accepted facts) r place z e = fact-says b facts t x (faultOf t) r place (sound-table b facts .0 z) refl e
+
+-- over a sound table, for a well-formed fact, the check is that of the lines
+lines-checked : (b : List ℕ) (facts : List Fact) (t : Fact) (x : List ℕ) (n : ℕ) → SoundTable b facts → T (wellFormed t) → Lines x n → checkAnswer b t x ≡ linesAnswer facts t x n
+unfolding checkAnswer tableAnswer factAnswer derivationAnswer
+lines-checked b facts t x n s w l = let z = lines-size x n l in rw (sound-table b facts .1 s, fault-none t .1 w, z .0, z .1)
+
+form-sound : (x : List ℕ) (j : ℕ) → laidOut 6 x (31 * j) ≡ true → formVerdict x j ≡ Sound
+unfolding formVerdict
+form-sound x j e = rw e
+
+form-bad : (x : List ℕ) (j : ℕ) → laidOut 6 x (31 * j) ≡ false → formVerdict x j ≡ Faulty Form
+unfolding formVerdict
+form-bad x j e = rw e
+
+step-sound : (facts : List Fact) (x : List ℕ) (j : ℕ) → Justified Rule facts (linesOf x j) (lineAt x j) → stepVerdict facts x j ≡ Sound
+unfolding stepVerdict
+step-sound facts x j s = rw (of-T (justified facts (linesOf x j) (lineAt x j)) (justified-is s))
+
+step-bad : (facts : List Fact) (x : List ℕ) (j : ℕ) → (Justified Rule facts (linesOf x j) (lineAt x j) → ⊥) → stepVerdict facts x j ≡ Faulty Step
+unfolding stepVerdict
+step-bad facts x j bad =
+    by-cases (justified facts (linesOf x j) (lineAt x j))
+    (λ e. absurd (bad (justified-says facts (linesOf x j) (lineAt x j) (T-of (justified facts (linesOf x j) (lineAt x j)) e))))
+    (λ e. rw e)
+
+forms-pass : (x : List ℕ) (n : ℕ) → ((j : ℕ) → j < n → laidOut 6 x (31 * j) ≡ true) → scan (formVerdict x) 0 n ≡ Passes (0 + n)
+forms-pass x n h = scan-all (formVerdict x) n 0 (λ j l. rw zero-add (form-sound x j (h j l)))
+
+steps-pass : (facts : List Fact) (x : List ℕ) (n : ℕ) → ((j : ℕ) → j < n → Justified Rule facts (linesOf x j) (lineAt x j)) → scan (stepVerdict facts x) 0 n ≡ Passes (0 + n)
+steps-pass facts x n h = scan-all (stepVerdict facts x) n 0 (λ j l. rw zero-add (step-sound facts x j (h j l)))
+
+end-bad : (t : Fact) (x : List ℕ) (n : ℕ) → (lineAt x (n - 1) .fact ≡ t → ⊥) → endAnswer t x n ≡ Refused End n
+unfolding endAnswer
+end-bad t x n bad = by-cases (same (lineAt x (n - 1) .fact) t) (λ e. absurd (bad (same-eq (lineAt x (n - 1) .fact) t (T-of _ e)))) (λ e. rw e)
+
+size-bad : (b : List ℕ) (facts : List Fact) (t : Fact) (x : List ℕ) → SoundTable b facts → T (wellFormed t) → ((n : ℕ) → Lines x n → ⊥) → checkAnswer b t x ≡ Refused Form 0
+unfolding checkAnswer tableAnswer factAnswer derivationAnswer
+size-bad b facts t x s w torn =
+    by-cases (ltb 0 (length x) && sized 31 63457 (length x))
+    (λ y. absurd (torn (length x / 31) (size-lines x y)))
+    (λ y. rw (sound-table b facts .1 s, fault-none t .1 w, y))
+
+-- a scan of the lines stops at line i
+stops-at : (judge : ℕ → Verdict) (n i : ℕ) (r : Refusal) → i < n → ((j : ℕ) → j < i → judge j ≡ Sound) → judge i ≡ Faulty r → scan judge 0 n ≡ Stops r (suc i)
+stops-at judge n i r h before bad = scan-stopped judge n r (suc i) .1 (record { line = i; counted = refl; within = h; sound = before; refuses = bad })
+
+check-is : {b : List ℕ} {t : Fact} {x : List ℕ} {r : Refusal} {place : ℕ} → CheckRefused b t x r place → checkAnswer b t x ≡ Refused r place
+check-is (refusals.by-table z) = unfold checkAnswer tableAnswer in (rw z)
+check-is {b} (refusals.by-fact {facts} s z) = unfold checkAnswer tableAnswer factAnswer in (rw (sound-table b facts .1 s, z))
+check-is {b} {t} {x} (refusals.by-size {facts} s w torn) = size-bad b facts t x s w torn
+check-is {b} {t} {x} (refusals.by-form {facts} {n} {i} s w l h before bad) =
+    lines-checked b facts t x n s w l ∙ unfold linesAnswer after in (rw (stops-at (formVerdict x) n i Form h (λ j k. form-sound x j (before j k)) (form-bad x i bad)))
+check-is {b} {t} {x} (refusals.by-step {facts} {n} {i} s w l h laid before bad) =
+    lines-checked b facts t x n s w l
+    ∙ unfold linesAnswer after in (rw (forms-pass x n laid, stops-at (stepVerdict facts x) n i Step h (λ j k. step-sound facts x j (before j k)) (step-bad facts x i bad)))
+check-is {b} {t} {x} (refusals.by-end {facts} {n} s w l laid steps bad) =
+    lines-checked b facts t x n s w l ∙ unfold linesAnswer after in (rw (forms-pass x n laid, steps-pass facts x n steps) (end-bad t x n bad))
+
+pub check-refused : (b : List ℕ) (t : Fact) (x : List ℕ) (r : Refusal) (place : ℕ) → checkAnswer b t x ≡ Refused r place ↔ CheckRefused b t x r place
+check-refused b t x r place = (unfold checkAnswer in check-says b t x (tableOf b) r place refl, check-is)

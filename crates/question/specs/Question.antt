@@ -1,0 +1,120 @@
+-- The question (document 01, "The question" and the order of refusals): its answer for every input, and the output afterwards. The
+-- limit is document 01's allowance, the output its paper.
+-- Assumes nothing.
+use mathlib.Core.Path.{_≡_}
+use mathlib.Core.Logic.{_⊎_}
+use mathlib.Core.Bool.{cond}
+use mathlib.Core.Option.{Option, none, some}
+use mathlib.Core.List.{List, [], map}
+use Prim.Native.Nat.{ℕ, _-_, _*_, _≤_}
+use lib.ListN.{length}
+use lib.Dec.{leb}
+use Rattle.columns.specs.Lines.{over}
+use Rattle.facts.specs.declared.Fact.{Fact}
+use Rattle.facts.specs.declared.Refusal.the-variants.{Allowance, Short}
+use Rattle.facts.specs.declared.Verdict.{Verdict}
+use Rattle.facts.specs.declared.Verdict.the-variants.{Sound, Faulty}
+use Rattle.facts.specs.declared.Answer.{Answer}
+use Rattle.facts.specs.declared.Answer.the-variants.{Done, Yes, No, Long, Accepted, Refused}
+use Rattle.facts.specs.Facts.{faultOf}
+use Rattle.table.specs.Judged.{orElse}
+use Rattle.table.specs.Tables.{Table, accepted, refused, tableOf}
+use Rattle.rules.specs.Rules.{Rule}
+use Rattle.rules.specs.Derivations.{Derivable, Closed, Holds, Least}
+use Rattle.rules.specs.Paths.{fewest}
+use Rattle.rules.specs.Printed.{printed, printOrder}
+use Rattle.rules.specs.Chosen.{chosen, factIn}
+use Rattle.question.specs.Row.{Sorted}
+use Rattle.derivation.specs.Bytes.{derivationBytes}
+
+-- ---- the answer
+
+-- the first of refusals 3, 4, 5 that the fact of a question earns: the same as in a table
+unfoldable pub questionFault : Fact → Verdict
+unfolding faultOf
+questionFault t = faultOf t
+
+-- the bytes of output that a limit asks for: 31 for each of 2 L - 1 lines, and none for L = 0
+abbrev pub needed : ℕ → ℕ
+needed limit = 31 * (2 * limit - 1)
+
+-- what a question to an accepted table earns, with so many bytes of output: 3, 4, 5, then 7, then 8
+unfoldable pub asked : Fact → ℕ → ℕ → Verdict
+unfolding orElse questionFault
+asked t limit size = orElse (questionFault t) (cond (leb limit 1024) (cond (leb (needed limit) size) Sound (Faulty Short)) (Faulty Allowance))
+
+-- yes where the fewest table lines are within the limit, and else long; no where there are none
+unfoldable pub answerBy : ℕ → Option ℕ → Answer
+answerBy limit none = No
+answerBy limit (some f) = cond (leb f limit) (Yes f) (Long f)
+
+-- the answer from a table's facts: no lent memory matters
+unfoldable pub answerOf : List Fact → Fact → ℕ → Answer
+unfolding answerBy fewest
+answerOf facts t limit = answerBy limit (fewest facts t)
+
+-- an answer, unless something is refused; the place is 0
+unfoldable pub unless : Verdict → Answer → Answer
+unless Sound a = a
+unless (Faulty r) a = Refused r 0
+
+-- the answer from a table: its refusal, with place, comes first
+unfoldable pub answerFrom : Table → Fact → ℕ → ℕ → Answer
+unfolding unless asked answerOf
+answerFrom (accepted facts) t limit size = unless (asked t limit size) (answerOf facts t limit)
+answerFrom (refused r place) t limit size = Refused r place
+
+-- the answer to a question: table bytes, fact, limit, bytes of output
+unfoldable pub questionAnswer : List ℕ → Fact → ℕ → ℕ → Answer
+unfolding answerFrom tableOf
+questionAnswer table t limit size = answerFrom (tableOf table) t limit size
+
+-- ---- the output
+
+-- the bytes of the derivation of a path's facts, in printed order
+unfoldable pub printedOf : List Fact → Option (List ℕ) → List ℕ
+unfolding printed printOrder
+printedOf facts none = []
+printedOf facts (some places) = derivationBytes (printed (printOrder (map (factIn facts) places)))
+
+-- the bytes that are printed for t: the derivation of the chosen path, if there is a path
+unfoldable pub printedFor : List Fact → Fact → List ℕ
+unfolding printedOf chosen
+printedFor facts t = printedOf facts (chosen facts t)
+
+-- and from a table
+unfoldable pub printedFrom : Table → Fact → List ℕ
+unfolding printedFor
+printedFrom (accepted facts) t = printedFor facts t
+printedFrom (refused r place) t = []
+
+-- a yes writes over the front of the output; any other answer writes nothing
+unfoldable pub written : Answer → List ℕ → List ℕ → List ℕ
+written (Yes f) bytes old = over bytes old
+written No bytes old = old
+written (Long f) bytes old = old
+written (Done n) bytes old = old
+written (Accepted n) bytes old = old
+written (Refused r place) bytes old = old
+
+-- the output after a question
+unfoldable pub outputAfter : List ℕ → Fact → ℕ → List ℕ → List ℕ
+unfolding written questionAnswer printedFrom
+outputAfter table t limit old = written (questionAnswer table t limit (length old)) (printedFrom (tableOf table) t) old
+
+-- what the answer from a row's facts needs: that they ascend, a limit of at most 1,024, and the output that it asks for
+pub record Settling (row : List ℕ) (n limit size : ℕ) : Type 0 where
+  pub sorted : Sorted row n
+  pub limited : limit ≤ 1024
+  pub room : needed limit ≤ size
+
+-- ---- what a question answers, and what that means
+
+pub record Answered (table : List ℕ) (t : Fact) (limit : ℕ) (entry exit : List ℕ) (r : Answer) : Type 0 where
+  pub answer : r ≡ questionAnswer table t limit (length entry)
+  pub output : exit ≡ outputAfter table t limit entry
+  -- yes and long carry the fewest table lines of any derivation, and these are at most the table's facts
+  pub least : (facts : List Fact) → tableOf table ≡ accepted facts → (f : ℕ) → (r ≡ Yes f) ⊎ (r ≡ Long f) → Least Rule facts t f × (f ≤ length facts)
+  -- no: there is no derivation; the facts that have one are a closed set that holds the table and lacks t
+  pub none : (facts : List Fact) → tableOf table ≡ accepted facts → r ≡ No
+      → Closed Rule (Derivable Rule facts) × Holds (Derivable Rule facts) facts × (Derivable Rule facts t → ⊥)
