@@ -22,7 +22,10 @@ use Rattle.facts.specs.declared.Verdict.the-variants.{Sound, Faulty}
 use Rattle.facts.specs.declared.Answer.{Answer}
 use Rattle.facts.specs.declared.Answer.the-variants.{Accepted, Refused}
 use Rattle.facts.specs.Facts.{fact, wellFormed, faultOf}
+use Rattle.facts.specs.Answers.{codeOf}
 use Rattle.facts.proofs.Terms.{by-cases, T-of, of-T}
+use Rattle.facts.proofs.Facts.{fault-none}
+use Rattle.facts.proofs.Codes.{told-accepted}
 use Rattle.table.specs.declared.Scan.{Scan}
 use Rattle.table.specs.declared.Scan.the-variants.{Passes, Stops}
 use Rattle.table.specs.Scans.{scan}
@@ -38,17 +41,8 @@ use Rattle.rules.specs.Steps.{same, justified}
 use Rattle.rules.proofs.Steps.{same-eq, same-self, justified-is, justified-says}
 use Rattle.derivation.specs.Bytes.{numbers, derivationBytes, lineAt}
 use Rattle.derivation.proofs.Bytes.{derivation-length, derivation-written, line-read-back}
-use Rattle.acceptance.specs.Check.{linesOf, formVerdict, stepVerdict, after, endAnswer, linesAnswer, derivationAnswer, factAnswer, tableAnswer, checkAnswer}
+use Rattle.acceptance.specs.Check.{linesOf, formVerdict, stepVerdict, after, endAnswer, linesAnswer, derivationAnswer, factAnswer, tableAnswer, checkAnswer, DerivationOf, Judges}
 use Rattle.acceptance.proofs.Lines.{fact-there}
-
--- the bytes x are a derivation of t from the facts, of 1 to 2,047 lines, with c table lines
-pub record Judged (facts : List Fact) (t : Fact) (x : List ℕ) (c : ℕ) : Type 0 where
-  pub derivation : List Line
-  pub bytes : x ≡ derivationBytes derivation
-  pub some-line : 0 < length derivation
-  pub short : length derivation ≤ 2047
-  pub derives : Derives Rule facts derivation t
-  pub count : tableLines derivation ≡ c
 
 -- ---- justified lines by their places
 
@@ -120,7 +114,7 @@ end-says t x n c e =
     (λ p. let q : Accepted (tableLines (linesOf x n)) ≡ Accepted c = rw p at e in (same-eq _ t (T-of _ p), cc))
     (λ p. let q : Refused End n ≡ Accepted c = rw p at e in let z : _≡_ {A = ℕ} 0 1 = cc in absurd (omega arith))
 
-lines-say : (facts : List Fact) (t : Fact) (x : List ℕ) (n c : ℕ) → 0 < n → n ≤ 2047 → length x ≡ 31 * n → linesAnswer facts t x n ≡ Accepted c → Judged facts t x c
+lines-say : (facts : List Fact) (t : Fact) (x : List ℕ) (n c : ℕ) → 0 < n → n ≤ 2047 → length x ≡ 31 * n → linesAnswer facts t x n ≡ Accepted c → DerivationOf facts t x c
 unfolding linesAnswer formVerdict stepVerdict
 lines-say facts t x n c pos few size e =
     let a = after-accepted (scan (formVerdict x) 0 n) _ c e in
@@ -139,7 +133,7 @@ lines-say facts t x n c pos few size e =
       count = end .1;
     }
 
-derivation-says : (facts : List Fact) (t : Fact) (x : List ℕ) (c : ℕ) → derivationAnswer facts t x ≡ Accepted c → Judged facts t x c
+derivation-says : (facts : List Fact) (t : Fact) (x : List ℕ) (c : ℕ) → derivationAnswer facts t x ≡ Accepted c → DerivationOf facts t x c
 unfolding derivationAnswer
 derivation-says facts t x c e =
     by-cases (ltb 0 (length x) && sized 31 63457 (length x))
@@ -198,9 +192,19 @@ answer-of b facts t x e s = rw (e, s)
 -- over an accepted table, for a fact without fault, the check accepts with count c exactly the bytes of the derivations of that fact of 1 to
 -- 2,047 lines with c table lines
 pub check-accepts : (b : List ℕ) (facts : List Fact) (t : Fact) (x : List ℕ) (c : ℕ) → tableOf b ≡ accepted facts → faultOf t ≡ Sound
-    → checkAnswer b t x ≡ Accepted c ↔ Judged facts t x c
+    → checkAnswer b t x ≡ Accepted c ↔ DerivationOf facts t x c
 check-accepts b facts t x c e s =
     let wf : (f : Fact) → f ∈ facts → T (wellFormed f) = λ f m. formed-in facts f (tableOf-accepted b facts .0 e .1 .formed) m in (
       λ a. derivation-says facts t x c (sym (answer-of b facts t x e s) ∙ a),
       λ j. answer-of b facts t x e s ∙ rw (j .bytes) (derivation-is facts t (j .derivation) wf (j .some-line) (j .short) (j .derives) ∙ ap Accepted (j .count)),
     )
+
+-- the same by document 01's numbers
+pub check-judges : (b : List ℕ) (t : Fact) (x : List ℕ) → Judges b t x (codeOf (checkAnswer b t x))
+check-judges b t x facts is w n =
+    let a = check-accepts b facts t x n is (fault-none t .1 w) in
+    (λ e. a .0 (told-accepted e), λ j. ap codeOf (a .1 j))
+
+-- the check's answer, with what it means
+pub judged : (b : List ℕ) (t : Fact) (x : List ℕ) (a : Answer) → a ≡ checkAnswer b t x → (a ≡ checkAnswer b t x) × Judges b t x (codeOf a)
+judged b t x a e = (e, rw e (check-judges b t x))

@@ -1,11 +1,13 @@
 -- The check of a derivation, as a computation (document 01, "Derivation lines and their check" and the order of refusals: "The
 -- check tries table, triple, 9 over all lines, 10, 11").
 -- Assumes nothing.
+use mathlib.Core.Path.{_≡_}
+use mathlib.Core.Logic.{_↔_}
 use mathlib.Core.Bool.{Bool, cond, _&&_}
 use mathlib.Core.List.{List}
-use Prim.Native.Nat.{ℕ, _-_, _*_, _/_}
+use Prim.Native.Nat.{ℕ, _-_, _*_, _/_, _≤_, _<_}
 use lib.ListN.{length}
-use lib.Dec.{eqb, ltb}
+use lib.Dec.{T, eqb, ltb}
 use Rattle.columns.specs.Lines.{laidOut, itemsFrom}
 use Rattle.facts.specs.declared.Fact.{Fact}
 use Rattle.facts.specs.declared.Refusal.the-variants.{Form, Step, End}
@@ -13,16 +15,19 @@ use Rattle.facts.specs.declared.Verdict.{Verdict}
 use Rattle.facts.specs.declared.Verdict.the-variants.{Sound, Faulty}
 use Rattle.facts.specs.declared.Answer.{Answer}
 use Rattle.facts.specs.declared.Answer.the-variants.{Accepted, Refused}
-use Rattle.facts.specs.Facts.{faultOf}
+use Rattle.facts.specs.declared.Code.{Code}
+use Rattle.facts.specs.Facts.{wellFormed, faultOf}
+use Rattle.facts.specs.Answers.{AcceptedWith}
 use Rattle.table.specs.declared.Scan.{Scan}
 use Rattle.table.specs.declared.Scan.the-variants.{Passes, Stops}
 use Rattle.table.specs.Scans.{scan}
 use Rattle.table.specs.Tables.{Table, accepted, refused, sized, tableOf}
 use Rattle.rules.specs.declared.Line.{Line}
 use Rattle.rules.specs.Graph.{any}
-use Rattle.rules.specs.Derivations.{factOn, tableLines}
+use Rattle.rules.specs.Rules.{Rule}
+use Rattle.rules.specs.Derivations.{factOn, tableLines, Derives}
 use Rattle.rules.specs.Steps.{same, stepFrom, justified}
-use Rattle.derivation.specs.Bytes.{lineAt}
+use Rattle.derivation.specs.Bytes.{lineAt, derivationBytes}
 
 -- the first n lines of the derivation's bytes, by what their fields say
 abbrev pub linesOf : List ℕ → ℕ → List Line
@@ -73,3 +78,18 @@ tableAnswer (refused r place) t x = Refused r place
 -- what the check answers
 unfoldable pub checkAnswer : List ℕ → Fact → List ℕ → Answer
 checkAnswer b t x = tableAnswer (tableOf b) t x
+
+-- ---- the call, and what its answer means
+
+-- the bytes x are a derivation of t from the facts, of 1 to 2,047 lines, with c table lines
+pub record DerivationOf (facts : List Fact) (t : Fact) (x : List ℕ) (c : ℕ) : Type 0 where
+  pub derivation : List Line
+  pub bytes : x ≡ derivationBytes derivation
+  pub some-line : 0 < length derivation
+  pub short : length derivation ≤ 2047
+  pub derives : Derives Rule facts derivation t
+  pub count : tableLines derivation ≡ c
+
+-- over an accepted table, for a well-formed fact, exactly the derivations are accepted, with the number of their table lines
+abbrev pub Judges : List ℕ → Fact → List ℕ → Code → Type 0
+Judges b t x c = (facts : List Fact) → tableOf b ≡ accepted facts → T (wellFormed t) → (n : ℕ) → AcceptedWith c n ↔ DerivationOf facts t x n

@@ -31,7 +31,7 @@ use Rattle.table.proofs.Tables.{Stopped, tableOf-refused, line-refused, table-p
 use Rattle.rules.specs.Paths.{fewest}
 use Rattle.question.specs.Question.{needed, questionFault, asked, answerBy, answerOf, unless, answerFrom, questionAnswer, printedFrom}
 use Rattle.question.proofs.Answered.{fewest-meant}
-use Rattle.batch.specs.declared.Question.{Question}
+use Rattle.batch.specs.declared.Query.{Query}
 use Rattle.batch.specs.Output.{codeLine, behindCode, replyTo}
 
 -- a code that fits its columns, and is not 8
@@ -118,7 +118,7 @@ answer-plain table t limit = go (tableOf table) refl
     go (accepted facts) is = rw is (judged facts is (asked t limit (needed 1024)) refl)
 
 -- the first line of a reply reads as number, place and count of the answer, and the number is never 8
-pub reply-code : (table : List ℕ) (q : Question) (a : Answer) → a ≡ questionAnswer table (q .fact) (q .limit) (needed 1024)
+pub reply-code : (table : List ℕ) (q : Query) (a : Answer) → a ≡ questionAnswer table (q .fact) (q .limit) (needed 1024)
     → (laidOut 3 (replyTo table q) 0 ≡ true) × (numbersAt 3 (replyTo table q) 0 ≡ codeOf a .number ∷ codeOf a .place ∷ codeOf a .count ∷ []) × (codeOf a .number ≡ 8 → ⊥)
 unfolding replyTo codeLine Below
 reply-code table q a e =

@@ -15,13 +15,15 @@ use Rattle.columns.specs.Lines.{line, numbersAt, laidOut, Below, flat, itemsFro
 use Rattle.columns.proofs.Fields.{both}
 use Rattle.columns.proofs.Lines.{line-length, line-read, line-written}
 use Rattle.columns.proofs.Lists.{flat-length}
+use Rattle.facts.specs.declared.Refusal.the-variants.{Form}
+use Rattle.facts.specs.declared.Answer.the-variants.{Refused}
 use Rattle.facts.proofs.Terms.{by-cases}
 use Rattle.facts.proofs.Facts.{fact-eq}
 use Rattle.batch.specs.declared.Input.{Input}
 use Rattle.batch.specs.declared.Input.the-variants.{Torn, Parts}
-use Rattle.batch.specs.declared.Question.{Question}
+use Rattle.batch.specs.declared.Query.{Query}
 use Rattle.batch.specs.Input.{isZeroLine, bytesBehind, questionsBehind, allLaid, partsBehind, dividedFrom, layoutOf, questionAt}
-use Rattle.batch.specs.Output.{replyTo, reply, longest, replyIn, outputBy, outputOf}
+use Rattle.batch.specs.Output.{codeLine, replyTo, reply, longest, replyIn, outputBy, outputOf}
 use Rattle.batch.proofs.Replies.{reply-fits}
 use Rattle.batch.specs.Whole.{zeroLine, numbers, questionLine, AllBelow, Laid}
 
@@ -101,7 +103,7 @@ parts-say b size s n e =
 
 -- ---- questions
 
-question-eq : (p q : Question) → numbers p ≡ numbers q → p ≡ q
+question-eq : (p q : Query) → numbers p ≡ numbers q → p ≡ q
 question-eq p q e =
     let f = fact-eq (p .fact) (q .fact) (cc) (cc) (cc) in
     let l : p .limit ≡ q .limit = cc in
@@ -116,7 +118,7 @@ question-numbers b at =
 
 module _ (b : List ℕ) (from : ℕ) where
   -- the n questions from number i on
-  abbrev asks : ℕ → ℕ → List Question
+  abbrev asks : ℕ → ℕ → List Query
   asks i n = itemsFrom (λ k. questionAt b (from + 21 * k)) i n
 
   place-next : (i : ℕ) → from + 21 * i + 21 ≡ from + 21 * suc i
@@ -135,7 +137,7 @@ module _ (b : List ℕ) (from : ℕ) where
       (w .0 ∙ rw (question-numbers, place-next, r .0), (rw question-numbers at (w .1), r .1))
 
   -- questions that are written are laid out, and read back
-  laid-read : (qs : List Question) (i : ℕ) → drop (from + 21 * i) b ≡ flat questionLine qs → AllBelow qs → (allLaid b (from + 21 * i) (length qs) ≡ true) × (asks i (length qs) ≡ qs)
+  laid-read : (qs : List Query) (i : ℕ) → drop (from + 21 * i) b ≡ flat questionLine qs → AllBelow qs → (allLaid b (from + 21 * i) (length qs) ≡ true) × (asks i (length qs) ≡ qs)
   unfolding allLaid itemsFrom flat AllBelow
   laid-read [] i e below = (refl, refl)
   laid-read (q ∷ qs) i e below =
@@ -155,7 +157,7 @@ zero-length = line-length (0 ∷ 0 ∷ 0 ∷ [])
 line-front : (table rest : List ℕ) (at : ℕ) → at + 16 ≤ length table → take 16 (drop at (table ++ rest)) ≡ take 16 (drop at table)
 line-front table rest at h = rw (drop-append-le at table rest (omega arith)) (take-append-le 16 (drop at table) rest (rw length-drop (omega arith)))
 
-laid-layout : (b table : List ℕ) (qs : List Question) → Laid b table qs
+laid-layout : (b table : List ℕ) (qs : List Query) → Laid b table qs
     → (layoutOf b ≡ Parts (length table) (length qs)) × (asks b (length table + 16) 0 (length qs) ≡ qs) × (take (length table) b ≡ table)
 unfolding layoutOf partsBehind
 laid-layout b table qs l =
@@ -230,7 +232,7 @@ flat-same g h zero i e = refl
 flat-same g h (suc n) i e = rw (e i (omega arith), flat-same g h n (suc i) (λ k l. e k (omega arith)))
 
 -- where the input is laid out, each question in order gets its reply; so nothing is printed where there are no questions
-pub laid-output : (b table : List ℕ) (qs : List Question) → Laid b table qs → outputOf b ≡ flat (replyTo table) qs
+pub laid-output : (b table : List ℕ) (qs : List Query) → Laid b table qs → outputOf b ≡ flat (replyTo table) qs
 unfolding outputOf outputBy reply
 laid-output b table qs l =
     let p = laid-layout b table qs l in
@@ -241,11 +243,11 @@ unfolding flat
 no-questions b table l = laid-output b table [] l
 
 -- any other input gets the one line `    9    0    0`
-pub torn-output : (b : List ℕ) → ((table : List ℕ) (qs : List Question) → Laid b table qs → ⊥) → outputOf b ≡ line (9 ∷ 0 ∷ 0 ∷ [])
+pub torn-output : (b : List ℕ) → ((table : List ℕ) (qs : List Query) → Laid b table qs → ⊥) → outputOf b ≡ codeLine (Refused Form 0)
 unfolding outputOf outputBy
 torn-output b none = go (layoutOf b) refl
   where
-    go : (i : Input) → layoutOf b ≡ i → outputOf b ≡ line (9 ∷ 0 ∷ 0 ∷ [])
+    go : (i : Input) → layoutOf b ≡ i → outputOf b ≡ codeLine (Refused Form 0)
     go Torn e = rw e
     go (Parts size n) e = absurd (none _ _ (layout-laid b size n e))
 

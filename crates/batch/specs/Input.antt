@@ -10,7 +10,7 @@ use Rattle.columns.specs.Lines.{laidOut}
 use Rattle.facts.specs.Facts.{fact}
 use Rattle.batch.specs.declared.Input.{Input}
 use Rattle.batch.specs.declared.Input.the-variants.{Torn, Parts}
-use Rattle.batch.specs.declared.Question.{Question}
+use Rattle.batch.specs.declared.Query.{Query}
 
 -- the zero line `    0    0    0` stands at a place
 unfoldable pub isZeroLine : List ℕ → ℕ → Bool
@@ -46,5 +46,5 @@ unfolding dividedFrom
 layoutOf b = cond (leb (length b) 32768) (dividedFrom b 0 (length b / 16)) Torn
 
 -- the question at a place: its triple and its limit
-unfoldable pub questionAt : List ℕ → ℕ → Question
+unfoldable pub questionAt : List ℕ → ℕ → Query
 questionAt b at = record { fact = fact (numberAt b at) (numberAt b (at + 5)) (numberAt b (at + 10)); limit = numberAt b (at + 15) }

@@ -6,6 +6,7 @@ use Prim.Native.Nat.{ℕ, _+_, _*_}
 use lib.ListN.{take}
 use lib.Dec.{leb, ltb}
 use Rattle.columns.specs.Lines.{line, flat, itemsFrom}
+use Rattle.facts.specs.declared.Refusal.the-variants.{Form}
 use Rattle.facts.specs.declared.Answer.{Answer}
 use Rattle.facts.specs.declared.Answer.the-variants.{Done, Yes, No, Long, Accepted, Refused}
 use Rattle.facts.specs.Answers.{codeOf}
@@ -13,7 +14,7 @@ use Rattle.table.specs.Tables.{tableOf}
 use Rattle.question.specs.Question.{needed, questionAnswer, printedFrom}
 use Rattle.batch.specs.declared.Input.{Input}
 use Rattle.batch.specs.declared.Input.the-variants.{Torn, Parts}
-use Rattle.batch.specs.declared.Question.{Question}
+use Rattle.batch.specs.declared.Query.{Query}
 use Rattle.batch.specs.Input.{questionsBehind, layoutOf, questionAt}
 
 -- the line with an answer's number, place and count
@@ -39,7 +40,7 @@ replySize (Accepted n) = 16
 replySize (Refused r place) = 16
 
 -- the reply to a question about a table's bytes; it is put with memory enough for every limit
-unfoldable pub replyTo : List ℕ → Question → List ℕ
+unfoldable pub replyTo : List ℕ → Query → List ℕ
 unfolding codeLine behindCode questionAnswer printedFrom
 replyTo table q =
     let a = questionAnswer table (q .fact) (q .limit) (needed 1024) in
@@ -61,8 +62,8 @@ replyIn b size k m = cond (leb longest m && ltb k (questionsBehind b size)) (rep
 
 -- the output of an input by its parts: `    9    0    0` where it is torn, and else the replies, one behind the other
 unfoldable pub outputBy : List ℕ → Input → List ℕ
-unfolding line reply flat itemsFrom
-outputBy b Torn = line (9 ∷ 0 ∷ 0 ∷ [])
+unfolding codeLine reply flat itemsFrom
+outputBy b Torn = codeLine (Refused Form 0)
 outputBy b (Parts size n) = flat (reply b size) (itemsFrom (λ k. k) 0 n)
 
 -- all that the program prints

@@ -9,7 +9,7 @@ pub enum Input {
 }
 
 // A question: its triple and its limit, document 01's allowance.
-pub struct Question {
+pub struct Query {
     pub fact: Fact,
     pub limit: u32,
 }

@@ -11,7 +11,8 @@ use table::ROW_NUMBERS;
 use table::Scan;
 ghost use mathlib.Core.Path.{_≡_};
 ghost use Prim.Native.Nat.{_-_, _<_};
-ghost use Rattle.acceptance.specs.Check.{derivationAnswer, checkAnswer};
+ghost use Rattle.facts.specs.Answers.{codeOf};
+ghost use Rattle.acceptance.specs.Check.{derivationAnswer, checkAnswer, Judges};
 ghost use Rattle.acceptance.specs.Holds.{rowFacts, Ascends};
 
 // The check of a derivation over the row's facts.
@@ -34,7 +35,8 @@ fn check_derivation(row: &[u32], facts: usize, fact: Fact, derivation: &[u8]) ->
 
 // Judges a derivation of the fact from the table: accepted with the number of its table lines, or the first refusal.
 pub fn check(table: &[u8], fact: Fact, derivation: &[u8]) -> Answer
-    ensures { λ r. ⌜ r ≡ checkAnswer (now (table .entry)) fact (now (derivation .entry)) ⌝ }
+    ensures call { λ r. ⌜ r ≡ checkAnswer (now (table .entry)) fact (now (derivation .entry)) ⌝ }
+    ensures meaning { λ r. ⌜ Judges (now (table .entry)) fact (now (derivation .entry)) (codeOf r) ⌝ }
 {
     let mut row = [0u32; ROW_NUMBERS];
     match reader::load(table, &mut row) {

@@ -1,6 +1,6 @@
 -- What a yes printed is accepted by the check, with the same count.
 -- Assumes nothing.
-use mathlib.Core.Path.{_≡_, refl, sym, ap, _∙_}
+use mathlib.Core.Path.{_≡_, sym, ap, _∙_}
 use mathlib.Core.List.{List}
 use Prim.Native.Nat.{ℕ, _+_, _-_, _*_, _≤_}
 use native.Mathlib.Omega.{arith}
@@ -8,65 +8,43 @@ use lib.ListN.{length, take, drop, length-append}
 use lib.Seq.{take-at}
 use lib.Dec.{T}
 use Rattle.facts.specs.declared.Fact.{Fact}
-use Rattle.facts.specs.declared.Verdict.{Verdict}
-use Rattle.facts.specs.declared.Verdict.the-variants.{Sound, Faulty}
 use Rattle.facts.specs.declared.Answer.{Answer}
 use Rattle.facts.specs.declared.Answer.the-variants.{Yes, Accepted}
-use Rattle.facts.specs.Facts.{wellFormed, faultOf}
+use Rattle.facts.specs.Facts.{wellFormed}
 use Rattle.facts.specs.Answers.{codeOf}
 use Rattle.facts.proofs.Facts.{fault-none}
-use Rattle.table.specs.Judged.{orElse}
-use Rattle.table.specs.Tables.{Table, accepted, refused, tableOf}
-use Rattle.derivation.specs.Bytes.{derivationBytes}
+use Rattle.table.specs.Tables.{accepted, tableOf}
 use Rattle.derivation.proofs.Bytes.{derivation-length}
-use Rattle.acceptance.specs.Check.{checkAnswer}
-use Rattle.question.specs.Question.{questionFault, asked, answerOf, unless, answerFrom, questionAnswer, Answered}
-use Rattle.question.proofs.Answered.{asked-sound}
-use Rattle.demands.specs.Demands.{SoundInput}
-use Rattle.demands.proofs.Codes.{same-answer}
-use Rattle.demands.proofs.Refusals.{sound-table}
-use Rattle.demands.proofs.Demands.{demand-3}
+use Rattle.acceptance.specs.Check.{checkAnswer, DerivationOf}
+use Rattle.acceptance.proofs.Accepts.{check-accepts}
+use Rattle.question.specs.Question.{question, Answers, Prints}
+use Rattle.question.proofs.Answered.{answers-mean, yes-fewest, yes-input}
 
--- ---- a yes comes from sound input alone
+-- what is printed with at most 1,024 table lines is a derivation that the check can take
+pub prints-derivation : {facts : List Fact} {t : Fact} {f : ℕ} {x : List ℕ} → f ≤ 1024 → Prints facts t f x → DerivationOf facts t x f
+prints-derivation few p =
+    record { derivation = p .derivation; bytes = p .bytes; some-line = omega (arith, p .lines); short = omega (arith, p .lines); derives = p .derives; count = p .count }
 
-asked-formed : (t : Fact) (limit m : ℕ) → asked t limit m ≡ Sound → T (wellFormed t)
-unfolding asked orElse questionFault
-asked-formed t limit m e = go (faultOf t) refl
-  where
-    go : (v : Verdict) → faultOf t ≡ v → T (wellFormed t)
-    go Sound z = fault-none t .0 z
-    go (Faulty r) z = let u : Faulty r ≡ Sound = rw z at e in let k : _≡_ {A = ℕ} 0 1 = cc in absurd (omega arith)
-
-unless-yes : (v : Verdict) (a : Answer) (f : ℕ) → unless v a ≡ Yes f → v ≡ Sound
-unfolding unless
-unless-yes Sound a f e = refl
-unless-yes (Faulty r) a f e = let z : _≡_ {A = ℕ} 0 1 = cc in absurd (omega arith)
-
-yes-sound : (b : List ℕ) (t : Fact) (limit m f : ℕ) (u : Table) → tableOf b ≡ u → answerFrom u t limit m ≡ Yes f → (facts : List Fact) × SoundInput b facts t limit m
-unfolding answerFrom
-yes-sound b t limit m f (refused r place) z e = let k : _≡_ {A = ℕ} 0 1 = cc in absurd (omega arith)
-yes-sound b t limit m f (accepted facts) z e =
-    let s = unless-yes (asked t limit m) (answerOf facts t limit) f e in
-    let l = asked-sound t limit m s in
-    (facts, record { table = sound-table b facts .0 z; fact = asked-formed t limit m s; limited = l .0; room = l .1 })
-
--- ---- what it printed
+pub prints-accepted : (b : List ℕ) {facts : List Fact} {t : Fact} {f : ℕ} {x : List ℕ} → tableOf b ≡ accepted facts → T (wellFormed t) → f ≤ 1024 → Prints facts t f x
+    → checkAnswer b t x ≡ Accepted f
+prints-accepted b {facts} {t} {f} {x} is w few p = check-accepts b facts t x f is (fault-none t .1 w) .1 (prints-derivation few p)
 
 -- what a yes with f printed: 2 f - 1 lines in front of the output, which the check accepts with f
 pub record Checked (b : List ℕ) (t : Fact) (f : ℕ) (exit : List ℕ) : Type 0 where
   pub room : 31 * (2 * f - 1) ≤ length exit
   pub accepted : checkAnswer b t (take (31 * (2 * f - 1)) exit) ≡ Accepted f
 
-pub yes-checked : (b : List ℕ) (t : Fact) (limit f : ℕ) (entry exit : List ℕ) (a : Answer) → Answered b t limit entry exit a → a ≡ Yes f → Checked b t f exit
+pub yes-checked : (b : List ℕ) (t : Fact) (limit f : ℕ) (entry exit : List ℕ) (a : Answer) → Answers (question b t limit) entry exit a → a ≡ Yes f → Checked b t f exit
 yes-checked b t limit f entry exit a g e =
-    let s = yes-sound b t limit (length entry) f (tableOf b) refl (unfold questionAnswer in sym (g .answer) ∙ e) in
-    let p = demand-3 .printed b (s .0) t limit entry exit a f (s .1) g (ap codeOf e) in
+    let given = sym (g .answer) ∙ e in
+    let s = yes-input b t limit (length entry) f given in
+    let few : f ≤ 1024 = omega (arith, yes-fewest b t (s .0) (s .1) limit (length entry) f given .1, s .3) in
+    let m = answers-mean (question b t limit) entry exit a g (s .0) (s .1) .printed f (ap codeOf e) in
     let n = 31 * (2 * f - 1) in
-    let bytes = derivationBytes (p .0) in
-    let rest = drop (length bytes) entry in
-    let used : length bytes ≡ n = omega (arith, derivation-length (p .0), p .2) in
-    let long : length exit ≡ length bytes + length rest = ap length (p .1) ∙ length-append bytes _ in
+    let rest = drop (length (m .0)) entry in
+    let used : length (m .0) ≡ n = ap length (m .2 .bytes) ∙ omega (arith, derivation-length (m .2 .derivation), m .2 .lines) in
+    let long : length exit ≡ length (m .0) + length rest = ap length (m .1) ∙ length-append (m .0) _ in
     record {
       room = omega arith;
-      accepted = ap (λ x. checkAnswer b t x) (ap (take n) (p .1) ∙ take-at bytes rest n used) ∙ same-answer (checkAnswer b t bytes) (Accepted f) (p .6);
+      accepted = ap (λ x. checkAnswer b t x) (ap (take n) (m .1) ∙ take-at (m .0) rest n used) ∙ prints-accepted b (s .1) (s .2) few (m .2);
     }

@@ -3,209 +3,244 @@
 use mathlib.Core.Path.{_≡_, refl, sym, ap, _∙_}
 use mathlib.Core.Logic.{_↔_, _⊎_, inl, inr, ⊎-elim}
 use mathlib.Core.Option.{Option, none, some}
-use mathlib.Core.List.{List, _++_}
-use Prim.Native.Nat.{ℕ, suc, _+_, _-_, _≤_, _<_}
+use mathlib.Core.List.{List}
+use Prim.Native.Nat.{ℕ, _*_, _≤_, _<_}
 use native.Mathlib.Omega.{arith}
-use lib.ListN.{length, drop}
+use lib.ListN.{length, take}
+use lib.Seq.{take-at}
 use lib.Dec.{T, leb}
 use borrow.Author.Tests.{le-leb}
 use Rattle.columns.specs.Lines.{over}
 use Rattle.facts.specs.declared.Fact.{Fact}
 use Rattle.facts.specs.declared.Refusal.{Refusal}
-use Rattle.facts.specs.declared.Verdict.the-variants.{Sound}
 use Rattle.facts.specs.declared.Answer.{Answer}
-use Rattle.facts.specs.declared.Answer.the-variants.{Yes, No, Long, Accepted, Refused}
+use Rattle.facts.specs.declared.Answer.the-variants.{Done, No, Long, Refused}
+use Rattle.facts.specs.declared.Code.{Code}
 use Rattle.facts.specs.Facts.{wellFormed}
-use Rattle.facts.specs.Answers.{codeOf}
+use Rattle.facts.specs.Answers.{codeOf, YesWith, LongWith, Follows, SaysNo, AcceptedWith, DoneWith, RefusedWith}
 use Rattle.facts.proofs.Terms.{by-cases}
-use Rattle.facts.proofs.Facts.{fault-none}
-use Rattle.table.specs.Judged.{orElse}
-use Rattle.table.specs.Tables.{rowOf, tableBytes, tableOf, tableOfRow, accepted, settled, filled}
-use Rattle.table.proofs.Rows.{settle-done}
+use Rattle.facts.proofs.Codes.{told-yes, told-long, told-no, told-refused}
+use Rattle.table.specs.Tables.{rowOf, tableBytes, tableOf, tableOfRow, accepted}
+use Rattle.table.proofs.Rows.{row-length, bytes-length, settle-done}
 use Rattle.table.proofs.Tables.{read-write}
+use Rattle.records.specs.Records.{overRecords, settledRecords, filledRecords, TransfersRecords}
 use Rattle.rules.specs.declared.Line.{Line}
 use Rattle.rules.specs.Graph.{_∈_}
 use Rattle.rules.specs.Rules.{Rule}
-use Rattle.rules.specs.Derivations.{Derives, Derivable, tableLines, Least, Refuted}
-use Rattle.rules.specs.Order.{InOrder}
-use Rattle.rules.specs.Paths.{HasPath, fewest}
+use Rattle.rules.specs.Derivations.{Derives, Derivable, tableLines, Refuted}
+use Rattle.rules.specs.Paths.{fewest}
 use Rattle.rules.proofs.Paths.{no-fewer}
 use Rattle.rules.proofs.Fewest.{fewest-least, fewest-none, fewest-refuted, least-part, path-derives}
-use Rattle.derivation.specs.Bytes.{derivationBytes}
-use Rattle.acceptance.specs.Check.{checkAnswer}
-use Rattle.acceptance.proofs.Accepts.{check-accepts}
-use Rattle.question.specs.Question.{needed, questionFault, asked, answerBy, answerOf, unless, questionAnswer, printedFor, printedFrom, written, outputAfter, Answered}
-use Rattle.question.proofs.Answered.{answer-accepted, accepted-formed, yes-fewest, long-fewest, no-fewest, fewest-meant, fewest-prints, same-count}
+use Rattle.acceptance.specs.Check.{DerivationOf}
+use Rattle.question.specs.Question.{answerBy, answerOf, questionAnswer, written, outputAfter, Question, question, Meaning}
+use Rattle.question.proofs.Answered.{accepted-formed, yes-fewest, long-fewest, no-fewest, same-count}
+use Rattle.entail.specs.Packed.{unpacked}
+use Rattle.entail.specs.Calls.{CheckCall, ReadCall, WriteCall}
+use Rattle.entail.proofs.Unpacked.{question-unpacked, check-unpacked, read-unpacked, write-unpacked, call-means, call-judges}
+use Rattle.confirms.proofs.Confirms.{prints-derivation}
 use Rattle.demands.specs.Refusals.{SoundTable}
-use Rattle.demands.specs.Demands.{YesWith, LongWith, Follows, SaysNo, AcceptedWith, RefusedWith, SoundInput, Within, Demand-1, Demand-2, Demand-3}
-use Rattle.demands.proofs.Codes.{same-answer}
-use Rattle.demands.proofs.Refusals.{sound-table, question-refused, check-refused, memory-refused, memory-unchanged}
+use Rattle.demands.specs.Demands.{Put, said, SoundPut, Within, Demand-1, Demand-2, Demand-3}
+use Rattle.demands.proofs.Refusals.{sound-table, read-refused, facts-refused, write-refused, question-refused, check-refused, memory-unchanged, records-unchanged}
+use Rattle.demands.proofs.Sound.{sound-is, sound-answer, table-sound, row-sound, fact-sound, question-sound, check-sound}
+use Rattle.demands.proofs.Program.{torn, program-replies}
 
 -- ---- demand 1
 
-unchanged : (b : List ℕ) (t : Fact) (limit : ℕ) (entry exit : List ℕ) (a : Answer) (r : Refusal) (place : ℕ) → Answered b t limit entry exit a → a ≡ Refused r place → exit ≡ entry
-unfolding outputAfter written
-unchanged b t limit entry exit a r place g e = g .output ∙ rw (sym (g .answer) ∙ e)
+-- numbers that an answer has say exactly where it is refused
+by-numbers : {P : Type 0} {c : Code} (a : Answer) (r : Refusal) (place : ℕ) → c ≡ codeOf a → a ≡ Refused r place ↔ P → RefusedWith c r place ↔ P
+by-numbers a r place is q = (λ e. q .0 (told-refused (sym is ∙ e)), λ h. is ∙ ap codeOf (q .1 h))
 
--- exactly where an answer is a refusal it says so by its numbers
-by-numbers : {P : Type 0} (a : Answer) (r : Refusal) (place : ℕ) → a ≡ Refused r place ↔ P → RefusedWith a r place ↔ P
-by-numbers a r place q = (λ e. q .0 (same-answer a (Refused r place) e), λ h. ap codeOf (q .1 h))
+-- what a question that was put was answered
+abbrev answer : Put → Answer
+answer p = questionAnswer (p .question .table) (p .question .fact) (p .question .limit) (length (p .entry))
+
+said-is : (p : Put) → said p ≡ codeOf (answer p)
+said-is p = question-unpacked (p .call)
+
+-- an answer that writes nothing leaves the output as it was
+left : (p : Put) (a : Answer) → ((bytes old : List ℕ) → written a bytes old ≡ old) → answer p ≡ a → p .exit ≡ p .entry
+left p a w e = p .call .output ∙ unfold outputAfter in (rw e (w _ _))
+
+question-left : (p : Put) (r : Refusal) (place : ℕ) → RefusedWith (said p) r place → p .exit ≡ p .entry
+question-left p r place e = left p (Refused r place) (λ bytes old. unfold written in refl) (told-refused (sym (said-is p) ∙ e))
 
 pub demand-1 : Demand-1
 demand-1 = record {
-  question-refused = λ b t limit m r place. by-numbers (questionAnswer b t limit m) r place (question-refused b t limit m r place);
-  question-unchanged = λ b t limit entry exit a r place g e. unchanged b t limit entry exit a r place g (same-answer a (Refused r place) e);
-  check-refused = λ b t x r place. by-numbers (checkAnswer b t x) r place (check-refused b t x r place);
-  read-refused = λ b m r place. by-numbers (settled rowOf (tableOf b) m) r place (memory-refused rowOf (tableOf b) m r place);
-  read-unchanged = λ b old r place e. memory-unchanged rowOf (tableOf b) old r place (same-answer (settled rowOf (tableOf b) (length old)) (Refused r place) e);
-  write-refused = λ row m r place. by-numbers (settled tableBytes (tableOfRow row) m) r place (memory-refused tableBytes (tableOfRow row) m r place);
-  write-unchanged = λ row old r place e. memory-unchanged tableBytes (tableOfRow row) old r place (same-answer (settled tableBytes (tableOfRow row) (length old)) (Refused r place) e);
+  question-refused = λ p r place. by-numbers (answer p) r place (said-is p) (question-refused (p .question) (length (p .entry)) r place);
+  question-unchanged = question-left;
+  check-refused = λ {b} {t} {x} g r place. by-numbers _ r place (check-unpacked g) (check-refused b t x r place);
+  read-refused = λ {b} {entry} g r place. by-numbers _ r place (read-unpacked g) (read-refused b (length entry) r place);
+  read-unchanged = λ {b} {entry} g r place e. g .row ∙ memory-unchanged rowOf (tableOf b) entry r place (told-refused (sym (read-unpacked g) ∙ e));
+  facts-refused = λ {b} {entry} g r place. by-numbers _ r place (ap codeOf (g .answer)) (facts-refused b (length entry) r place);
+  facts-unchanged = λ {b} {entry} g r place e. g .memory ∙ records-unchanged (tableOf b) entry r place (told-refused (sym (ap codeOf (g .answer)) ∙ e));
+  write-refused = λ {row} {entry} g r place. by-numbers _ r place (write-unpacked g) (write-refused row (length entry) r place);
+  write-unchanged = λ {row} {entry} g r place e. g .bytes ∙ memory-unchanged tableBytes (tableOfRow row) entry r place (told-refused (sym (write-unpacked g) ∙ e));
+  program-torn = torn;
 }
 
--- ---- sound input
+-- ---- a sound question
 
-module _ (b : List ℕ) (facts : List Fact) (t : Fact) (limit m : ℕ) (s : SoundInput b facts t limit m) where
-  sound-is : tableOf b ≡ accepted facts
-  sound-is = sound-table b facts .1 (s .table)
+module _ (p : Put) (facts : List Fact) (s : SoundPut p facts) where
+  abbrev t : Fact
+  t = p .question .fact
 
-  -- sound input is answered from the facts
-  sound-answer : questionAnswer b t limit m ≡ answerOf facts t limit
-  sound-answer = answer-accepted b t facts sound-is limit m ∙ rw (nothing-refused) (unfold unless in refl)
-    where
-      nothing-refused : asked t limit m ≡ Sound
-      nothing-refused = unfold asked orElse questionFault in (rw (fault-none t .1 (s .fact), le-leb limit 1024 (s .limited), le-leb (needed limit) m (s .room)))
+  abbrev limit : ℕ
+  limit = p .question .limit
 
-  -- the answer is no, or yes or long with the fewest
-  sound-says : (o : Option ℕ) → fewest facts t ≡ o → answerBy limit o ≡ questionAnswer b t limit m
-  sound-says o e = sym (sound-answer ∙ unfold answerOf in (rw e))
+  abbrev lent : ℕ
+  lent = length (p .entry)
 
-  sound-fewest : ((f : ℕ) × (fewest facts t ≡ some f) × Follows (questionAnswer b t limit m) f) ⊎ ((fewest facts t ≡ none) × SaysNo (questionAnswer b t limit m))
-  sound-fewest = go (fewest facts t) refl
-    where
-      go : (o : Option ℕ) → fewest facts t ≡ o → ((f : ℕ) × (fewest facts t ≡ some f) × Follows (questionAnswer b t limit m) f) ⊎ ((fewest facts t ≡ none) × SaysNo (questionAnswer b t limit m))
-      go none e = inr (e, ap codeOf (sym (sound-says none e)) ∙ unfold answerBy in refl)
-      go (some f) e =
-          by-cases (leb f limit)
-          (λ y. inl (f, e, inl (ap codeOf (sym (sound-says (some f) e)) ∙ unfold answerBy in (rw y))))
-          (λ y. inl (f, e, inr (ap codeOf (sym (sound-says (some f) e)) ∙ unfold answerBy in (rw y))))
+  is : tableOf (p .question .table) ≡ accepted facts
+  is = sound-is (p .question) facts lent s
 
-  -- yes or long carries the fewest
-  follows-fewest : (f : ℕ) → Follows (questionAnswer b t limit m) f → fewest facts t ≡ some f
-  follows-fewest f =
-      ⊎-elim (λ (y : YesWith (questionAnswer b t limit m) f). yes-fewest b t facts sound-is limit m f (same-answer (questionAnswer b t limit m) (Yes f) y) .0)
-      (λ (y : LongWith (questionAnswer b t limit m) f). long-fewest b t facts sound-is limit m f (same-answer (questionAnswer b t limit m) (Long f) y))
-
-  no-none : SaysNo (questionAnswer b t limit m) → fewest facts t ≡ none
-  no-none e = no-fewest b t facts sound-is limit m (same-answer (questionAnswer b t limit m) No e)
+  means : Meaning (p .question) (p .entry) (p .exit) (said p) facts
+  means = call-means (p .call) facts is
 
   formed : (f : Fact) → f ∈ facts → T (wellFormed f)
-  formed = accepted-formed b t facts sound-is
+  formed = accepted-formed (p .question .table) t facts is
 
-  follows-derivable : ((f : ℕ) × Follows (questionAnswer b t limit m) f) ↔ Derivable Rule facts t
+  -- the answer is no, or yes or long with the fewest
+  by-fewest : (o : Option ℕ) → fewest facts t ≡ o → said p ≡ codeOf (answerBy limit o)
+  by-fewest o e =
+      let a : answer p ≡ answerBy limit o = sound-answer (p .question) facts lent s ∙ unfold answerOf in (rw e) in
+      said-is p ∙ ap codeOf a
+
+  found : ((f : ℕ) × (fewest facts t ≡ some f) × Follows (said p) f) ⊎ ((fewest facts t ≡ none) × SaysNo (said p))
+  found = go (fewest facts t) refl
+    where
+      go : (o : Option ℕ) → fewest facts t ≡ o → ((f : ℕ) × (fewest facts t ≡ some f) × Follows (said p) f) ⊎ ((fewest facts t ≡ none) × SaysNo (said p))
+      go none e = inr (e, by-fewest none e ∙ unfold answerBy in refl)
+      go (some f) e =
+          by-cases (leb f limit)
+          (λ y. inl (f, e, inl (by-fewest (some f) e ∙ unfold answerBy in (rw y))))
+          (λ y. inl (f, e, inr (by-fewest (some f) e ∙ unfold answerBy in (rw y))))
+
+  -- yes or long carries the fewest
+  follows-fewest : (f : ℕ) → Follows (said p) f → fewest facts t ≡ some f
+  follows-fewest f =
+      ⊎-elim (λ (y : YesWith (said p) f). yes-fewest (p .question .table) t facts is limit lent f (told-yes (sym (said-is p) ∙ y)) .0)
+      (λ (y : LongWith (said p) f). long-fewest (p .question .table) t facts is limit lent f (told-long (sym (said-is p) ∙ y)) .0)
+
+  no-none : SaysNo (said p) → fewest facts t ≡ none
+  no-none e = no-fewest (p .question .table) t facts is limit lent (told-no (sym (said-is p) ∙ e))
+
+  answered : ((f : ℕ) × Follows (said p) f) ⊎ SaysNo (said p)
+  answered =
+      ⊎-elim (λ (h : (f : ℕ) × (fewest facts t ≡ some f) × Follows (said p) f). inl (h .0, h .2))
+      (λ (h : (fewest facts t ≡ none) × SaysNo (said p)). inr (h .1)) found
+
+  follows-derivable : ((f : ℕ) × Follows (said p) f) ↔ Derivable Rule facts t
   follows-derivable = (
     λ h. let l = fewest-least facts formed t (h .0) .0 (follows-fewest (h .0) (h .1)) in (l .derivation, l .derives),
-    λ d. ⊎-elim (λ (h : (f : ℕ) × (fewest facts t ≡ some f) × Follows (questionAnswer b t limit m) f). (h .0, h .2))
-        (λ (h : (fewest facts t ≡ none) × SaysNo (questionAnswer b t limit m)). absurd (fewest-none facts formed t .0 (h .0) d)) sound-fewest,
+    λ d. ⊎-elim (λ (h : (f : ℕ) × (fewest facts t ≡ some f) × Follows (said p) f). (h .0, h .2))
+        (λ (h : (fewest facts t ≡ none) × SaysNo (said p)). absurd (fewest-none facts formed t .0 (h .0) d)) found,
   )
 
-  no-refuted : SaysNo (questionAnswer b t limit m) ↔ Refuted Rule facts t
+  no-refuted : SaysNo (said p) ↔ Refuted Rule facts t
   no-refuted = (
     λ e. fewest-refuted facts formed t .0 (no-none e),
     λ r. ⊎-elim
-        (λ (h : (f : ℕ) × (fewest facts t ≡ some f) × Follows (questionAnswer b t limit m) f).
+        (λ (h : (f : ℕ) × (fewest facts t ≡ some f) × Follows (said p) f).
         let z : none ≡ some (h .0) = sym (fewest-refuted facts formed t .1 r) ∙ h .1 in let k : _≡_ {A = ℕ} 0 1 = cc in absurd (omega arith))
-        (λ (h : (fewest facts t ≡ none) × SaysNo (questionAnswer b t limit m)). h .1) sound-fewest,
+        (λ (h : (fewest facts t ≡ none) × SaysNo (said p)). h .1) found,
   )
 
--- ---- demand 2
+  -- ---- the count, and what is printed
 
--- what the check accepts, as a derivation
-checked : (b : List ℕ) (facts : List Fact) (t : Fact) (x : List ℕ) (c : ℕ) → SoundTable b facts → T (wellFormed t)
-    → AcceptedWith (checkAnswer b t x) c ↔ ((d : List Line) × (x ≡ derivationBytes d) × (0 < length d) × (length d ≤ 2047) × Derives Rule facts d t × (tableLines d ≡ c))
-checked b facts t x c s w =
-    let a = check-accepts b facts t x c (sound-table b facts .1 s) (fault-none t .1 w) in (
-      λ e. let j = a .0 (same-answer (checkAnswer b t x) (Accepted c) e) in (j .derivation, j .bytes, j .some-line, j .short, j .derives, j .count),
-      λ h. ap codeOf (a .1 (record { derivation = h .0; bytes = h .1; some-line = h .2; short = h .3; derives = h .4; count = h .5 })),
+  fewer-none : (f : ℕ) → Follows (said p) f → (part : List Fact) → Within part facts → (d : List Line) → Derives Rule part d t → f ≤ tableLines d
+  fewer-none f h = least-part facts formed t f (means .least f h .0)
+
+  derives-none : SaysNo (said p) → (part : List Fact) → Within part facts → (d : List Line) → Derives Rule part d t → ⊥
+  derives-none e part in-facts d h =
+      let w = no-fewer {table = facts} in-facts h in
+      let made = path-derives facts formed t (w .0) in
+      fewest-none facts formed t .0 (no-none e) (made .0, made .1)
+
+  -- the count is at most the limit where it is a yes
+  yes-within : (f : ℕ) → YesWith (said p) f → f ≤ 1024
+  yes-within f e = omega (arith, yes-fewest (p .question .table) t facts is limit lent f (told-yes (sym (said-is p) ∙ e)) .1, s .limited)
+
+-- what the check accepts over a sound table, for a well-formed fact
+judges : {b : List ℕ} {t : Fact} {x : List ℕ} {n : ℕ} → CheckCall b t x n → (facts : List Fact) → SoundTable b facts → T (wellFormed t) → (c : ℕ) → AcceptedWith (unpacked n) c ↔ DerivationOf facts t x c
+judges {b} g facts s w = call-judges g facts (sound-table b facts .1 s) w
+
+-- the same question under another limit
+other-limit : (p : Put) (facts : List Fact) → SoundPut p facts → (f : ℕ) → Follows (said p) f → (p′ : Put) (limit : ℕ) → p′ .question ≡ question (p .question .table) (p .question .fact) limit
+    → SoundPut p′ facts → (f ≤ limit ↔ YesWith (said p′) f) × (limit < f ↔ LongWith (said p′) f)
+other-limit p facts s f h p′ limit e s′ =
+    let t = p .question .fact in
+    let z : fewest facts t ≡ some f = follows-fewest p facts s f h in
+    let z′ : fewest facts (p′ .question .fact) ≡ some f = rw e z in
+    let k : p′ .question .limit ≡ limit = ap (λ (q : Question). q .limit) e in
+    let c = same-count (p′ .question .table) (p′ .question .fact) facts (is p′ facts s′) limit f z′ in
+    let said-by : said p′ ≡ codeOf (answerOf facts (p′ .question .fact) limit) =
+    said-is p′ ∙ ap codeOf (sound-answer (p′ .question) facts (length (p′ .entry)) s′) ∙ ap (λ (l : ℕ). codeOf (answerOf facts (p′ .question .fact) l)) k in (
+      (λ l. said-by ∙ ap codeOf (c .0 l), λ y. omega (arith, k, yes-fewest (p′ .question .table) (p′ .question .fact) facts (is p′ facts s′) (p′ .question .limit) (length (p′ .entry)) f (told-yes (sym (said-is p′) ∙ y)) .1)),
+      (λ l. said-by ∙ ap codeOf (c .1 l), λ y. omega (arith, k, long-fewest (p′ .question .table) (p′ .question .fact) facts (is p′ facts s′) (p′ .question .limit) (length (p′ .entry)) f (told-long (sym (said-is p′) ∙ y)) .1)),
     )
 
-read-back : (b : List ℕ) (facts : List Fact) (row out : List ℕ) → SoundTable b facts → length (rowOf facts) ≤ length row → length b ≤ length out
-    → (filled rowOf (tableOf b) row ≡ over (rowOf facts) row) × (filled tableBytes (tableOfRow (rowOf facts)) out ≡ over b out)
-read-back b facts row out s h k =
-    let is = sound-table b facts .1 s in
-    let w = read-write b facts is in
-    (settle-done rowOf (tableOf b) row facts is h .1, settle-done tableBytes (tableOfRow (rowOf facts)) out facts (w .0) (rw (w .1) k) .1 ∙ rw (w .1))
+-- ---- reading and writing
+
+-- the numbers of a sound table's facts, written where there is room
+written-back : {b out out′ : List ℕ} {m : ℕ} {facts : List Fact} → SoundTable b facts → 16 * length facts ≤ length out → WriteCall (rowOf facts) out out′ m
+    → DoneWith (unpacked m) (length facts) × (out′ ≡ over b out)
+written-back {b} {out} {out′} {m} {facts} s room g =
+    let w = read-write b facts (sound-table b facts .1 s) in
+    let d = settle-done tableBytes (tableOfRow (rowOf facts)) out facts (w .0) (rw bytes-length room) in
+    (write-unpacked g ∙ ap codeOf (d .0), g .bytes ∙ d .1 ∙ rw (w .1))
+
+read-back : {b row row′ out out′ : List ℕ} {n m : ℕ} {facts : List Fact} → SoundTable b facts → 3 * length facts ≤ length row → 16 * length facts ≤ length out
+    → ReadCall b row row′ n → WriteCall (take (3 * length facts) row′) out out′ m
+    → DoneWith (unpacked n) (length facts) × DoneWith (unpacked m) (length facts) × (row′ ≡ over (rowOf facts) row) × (out′ ≡ over b out)
+read-back {b} {row} {row′} {out} {out′} {n} {m} {facts} s room space g h =
+    let d = settle-done rowOf (tableOf b) row facts (sound-table b facts .1 s) (rw row-length room) in
+    let r : row′ ≡ over (rowOf facts) row = g .row ∙ d .1 in
+    let front : take (3 * length facts) row′ ≡ rowOf facts = rw r (take-at (rowOf facts) _ (3 * length facts) (row-length facts)) in
+    let w = written-back s space (rw front at h) in
+    (read-unpacked g ∙ ap codeOf (d .0), w .0, r, w .1)
+
+facts-back : {b out out′ : List ℕ} {row row′ : List Fact} {a : Answer} {m : ℕ} {facts : List Fact} → SoundTable b facts → length facts ≤ length row → 16 * length facts ≤ length out
+    → TransfersRecords b row row′ a → WriteCall (rowOf (take (length facts) row′)) out out′ m
+    → DoneWith (codeOf a) (length facts) × DoneWith (unpacked m) (length facts) × (row′ ≡ overRecords facts row) × (out′ ≡ over b out)
+facts-back {b} {out} {out′} {row} {row′} {a} {m} {facts} s room space g h =
+    let done : settledRecords (tableOf b) (length row) ≡ Done (length facts) = unfold settledRecords in (rw (sound-table b facts .1 s, le-leb (length facts) (length row) room)) in
+    let r : row′ ≡ overRecords facts row = g .memory ∙ unfold filledRecords in (rw (sound-table b facts .1 s, le-leb (length facts) (length row) room)) in
+    let front : take (length facts) row′ ≡ facts = rw r (take-at facts _ (length facts) refl) in
+    let w = written-back s space (rw front at h) in
+    (ap codeOf (g .answer ∙ done), w .0, r, w .1)
 
 pub demand-2 : Demand-2
 demand-2 = record {
-  table-sound = sound-table;
-  fact-sound = fault-none;
-  answered = λ b facts t limit m s.
-      ⊎-elim (λ (h : (f : ℕ) × (fewest facts t ≡ some f) × Follows (questionAnswer b t limit m) f). inl (h .0, h .2))
-      (λ (h : (fewest facts t ≡ none) × SaysNo (questionAnswer b t limit m)). inr (h .1)) (sound-fewest b facts t limit m s);
+  table-sound = table-sound;
+  row-sound = row-sound;
+  fact-sound = fact-sound;
+  question-sound = question-sound;
+  check-sound = check-sound;
+  answered = answered;
   follows = follows-derivable;
   refuted = no-refuted;
-  checked = checked;
+  checked = judges;
   read-written = read-back;
+  facts-written = facts-back;
 }
 
 -- ---- demand 3
 
--- what is in the output after a yes
-pub yes-output : (b : List ℕ) (facts : List Fact) (t : Fact) (limit f : ℕ) (entry bytes : List ℕ) → tableOf b ≡ accepted facts → questionAnswer b t limit (length entry) ≡ Yes f
-    → printedFor facts t ≡ bytes → outputAfter b t limit entry ≡ over bytes entry
-unfolding outputAfter written printedFrom
-yes-output b facts t limit f entry bytes is given e = rw (given, is, e)
-
-module _ (b : List ℕ) (facts : List Fact) (t : Fact) (limit : ℕ) (entry exit : List ℕ) (a : Answer) (s : SoundInput b facts t limit (length entry)) (g : Answered b t limit entry exit a) where
-  -- the count is the fewest
-  given-fewest : (f : ℕ) → Follows a f → fewest facts t ≡ some f
-  given-fewest f h = follows-fewest b facts t limit (length entry) s f (rw (← g .answer) h)
-
-  given-least : (f : ℕ) → Follows a f → Least Rule facts t f × (f ≤ length facts)
-  given-least f h = fewest-meant b t facts (sound-is b facts t limit (length entry) s) f (given-fewest f h)
-
-  given-no-fewer : (f : ℕ) → Follows a f → (part : List Fact) → Within part facts → (d : List Line) → Derives Rule part d t → f ≤ tableLines d
-  given-no-fewer f h = least-part facts (formed b facts t limit (length entry) s) t f (given-least f h .0)
-
-  given-checked : (f : ℕ) → Follows a f → (b′ : List ℕ) (part : List Fact) → SoundTable b′ part → Within part facts → (x : List ℕ) (c : ℕ) → AcceptedWith (checkAnswer b′ t x) c → f ≤ c
-  given-checked f h b′ part s′ in-facts x c e =
-      let j = checked b′ part t x c s′ (s .fact) .0 e in omega (arith, given-no-fewer f h part in-facts (j .0) (j .4), j .5)
-
-  given-none : SaysNo a → (part : List Fact) → Within part facts
-      → ((d : List Line) → Derives Rule part d t → ⊥) × ((b′ : List ℕ) → SoundTable b′ part → (x : List ℕ) (c : ℕ) → AcceptedWith (checkAnswer b′ t x) c → ⊥)
-  given-none e part in-facts =
-      let z = no-none b facts t limit (length entry) s (rw (← g .answer) e) in
-      let no-derivation : (d : List Line) → Derives Rule part d t → ⊥ =
-      λ d h. let p = no-fewer {table = facts} in-facts h in fewest-none facts (formed b facts t limit (length entry) s) t .0 z (path-derivable (p .0)) in
-      (no-derivation, λ b′ s′ x c e. let j = checked b′ part t x c s′ (s .fact) .0 e in no-derivation (j .0) (j .4))
-    where
-      path-derivable : HasPath facts t → Derivable Rule facts t
-      path-derivable h = let d = path-derives facts (formed b facts t limit (length entry) s) t h in (d .0, d .1)
-
-  given-printed : (f : ℕ) → YesWith a f
-      → (d : List Line) × (exit ≡ derivationBytes d ++ drop (length (derivationBytes d)) entry) × (suc (length d) ≡ f + f) × (tableLines d ≡ f)
-      × InOrder d × Derives Rule facts d t × AcceptedWith (checkAnswer b t (derivationBytes d)) f
-  given-printed f h =
-      let is = sound-is b facts t limit (length entry) s in
-      let yes : questionAnswer b t limit (length entry) ≡ Yes f = sym (g .answer) ∙ same-answer a (Yes f) h in
-      let q = yes-fewest b t facts is limit (length entry) f yes in
-      let p = fewest-prints b t facts is f (q .0) in
-      let d = p .derivation in
-      let few : f ≤ 1024 = omega (arith, q .1, s .limited) in
-      let some-line : 0 < length d = omega (arith, p .lines) in
-      let out : exit ≡ over (derivationBytes d) entry = g .output ∙ yes-output b facts t limit f entry (derivationBytes d) is yes (p .bytes) in
-      (d, out, p .lines, p .count, p .order, p .derives, checked b facts t (derivationBytes d) f (s .table) (s .fact) .1 (d, refl, some-line, omega (arith, p .lines), p .derives, p .count))
-
 pub demand-3 : Demand-3
 demand-3 = record {
-  least = λ b facts t limit entry exit a f s g h. given-least b facts t limit entry exit a s g f h;
-  no-fewer = λ b facts t limit entry exit a f s g h. given-no-fewer b facts t limit entry exit a s g f h;
-  no-fewer-checked = λ b facts t limit entry exit a f s g h. given-checked b facts t limit entry exit a s g f h;
-  same-count = λ b facts t limit entry exit a f s g h limit′ entry′ exit′ a′ s′ g′.
-      let e = given-fewest b facts t limit entry exit a s g f h in
-      let c = same-count b t facts (sound-is b facts t limit (length entry) s) limit′ f e in
-      let r = g′ .answer ∙ sound-answer b facts t limit′ (length entry′) s′ in
-      (λ k. ap codeOf (r ∙ c .0 k), λ k. ap codeOf (r ∙ c .1 k));
-  printed = λ b facts t limit entry exit a f s g h. given-printed b facts t limit entry exit a s g f h;
-  none = λ b facts t limit entry exit a s g h. given-none b facts t limit entry exit a s g h;
+  least = λ p facts s. means p facts s .least;
+  no-fewer = fewer-none;
+  no-fewer-checked = λ p facts s f h b part s′ in-facts x n g c e.
+      let j = judges g part s′ (s .fact) c .0 e in omega (arith, fewer-none p facts s f h part in-facts (j .derivation) (j .derives), j .count);
+  same-count = other-limit;
+  printed = λ p facts s f e.
+      let m = means p facts s .printed f e in
+      (m .0, m .1, m .2, λ r g. judges g facts (s .table) (s .fact) f .1 (prints-derivation (yes-within p facts s f e) (m .2)));
+  none = λ p facts s e part in-facts. (
+    derives-none p facts s e part in-facts,
+    λ b s′ x n g c h. let j = judges g part s′ (s .fact) c .0 h in derives-none p facts s e part in-facts (j .derivation) (j .derives),
+  );
+  unwritten = λ p f. ⊎-elim (λ (e : LongWith (said p) f). left p (Long f) (λ bytes old. unfold written in refl) (told-long (sym (said-is p) ∙ e)))
+      (λ (e : SaysNo (said p)). left p No (λ bytes old. unfold written in refl) (told-no (sym (said-is p) ∙ e)));
+  program = program-replies;
 }

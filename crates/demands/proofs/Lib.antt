@@ -1,4 +1,5 @@
-pub mod Codes
 pub mod Refusals
+pub mod Sound
+pub mod Program
 pub mod Demands
 pub mod Cases

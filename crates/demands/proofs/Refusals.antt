@@ -1,7 +1,7 @@
 -- Each call refuses exactly what document 01 refuses, with its number and place.
 -- Assumes nothing.
 use mathlib.Core.Path.{_≡_, refl, sym, _∙_}
-use mathlib.Core.Logic.{_↔_}
+use mathlib.Core.Logic.{_↔_, _⊎_, inl, inr, ⊎-elim}
 use mathlib.Core.Bool.{Bool, true, false, cond, _&&_}
 use mathlib.Core.Option.{Option, none, some}
 use mathlib.Core.List.{List}
@@ -15,9 +15,10 @@ use Rattle.columns.specs.Lines.{laidOut}
 use Rattle.columns.proofs.Fields.{both}
 use Rattle.facts.specs.declared.Fact.{Fact}
 use Rattle.facts.specs.declared.Refusal.{Refusal}
-use Rattle.facts.specs.declared.Refusal.the-variants.{Allowance, Short, Form, Step, End}
+use Rattle.facts.specs.declared.Refusal.the-variants.{Size, Allowance, Short, Form, Step, End}
 use Rattle.facts.specs.declared.Verdict.{Verdict}
 use Rattle.facts.specs.declared.Verdict.the-variants.{Sound, Faulty}
+use Rattle.facts.specs.declared.Answer.{Answer}
 use Rattle.facts.specs.declared.Answer.the-variants.{Done, Yes, Long, Accepted, Refused}
 use Rattle.facts.specs.Facts.{wellFormed, faultOf}
 use Rattle.facts.proofs.Terms.{by-cases, T-of, of-T}
@@ -25,11 +26,12 @@ use Rattle.facts.proofs.Facts.{fault-none}
 use Rattle.table.specs.declared.Scan.{Scan}
 use Rattle.table.specs.declared.Scan.the-variants.{Passes, Stops}
 use Rattle.table.specs.Judged.{orElse}
-use Rattle.table.specs.Scans.{scan}
-use Rattle.table.specs.Tables.{Table, accepted, refused, sized, tableOf, settled, filled}
-use Rattle.table.proofs.Rows.{sized-fits, sized-says}
+use Rattle.table.specs.Scans.{earns, tried, firstEarned, scan}
+use Rattle.table.specs.Tables.{Table, accepted, refused, sized, rowOf, tableBytes, lineFact, rowFact, lineVerdict, rowVerdict, tableOf, tableOfRow, settled, filled}
+use Rattle.table.proofs.Rows.{row-length, bytes-length, sized-fits, sized-says}
 use Rattle.table.proofs.Lists.{scan-sound, scan-all}
-use Rattle.table.proofs.Tables.{scan-stopped, tableOf-accepted}
+use Rattle.table.proofs.Tables.{scan-stopped, tableOf-accepted, tableOfRow-accepted, first-none, first-earned, Stopped, Refusable, tableOf-refused, tableOfRow-refused}
+use Rattle.records.specs.Records.{settledRecords, filledRecords}
 use Rattle.rules.specs.Rules.{Rule}
 use Rattle.rules.specs.Derivations.{Justified}
 use Rattle.rules.specs.Paths.{fewest}
@@ -37,35 +39,155 @@ use Rattle.rules.specs.Steps.{same, justified}
 use Rattle.rules.proofs.Steps.{same-eq, same-self, justified-is, justified-says}
 use Rattle.derivation.specs.Bytes.{lineAt}
 use Rattle.acceptance.specs.Check.{linesOf, formVerdict, stepVerdict, after, endAnswer, linesAnswer, derivationAnswer, factAnswer, tableAnswer, checkAnswer}
-use Rattle.question.specs.Question.{needed, questionFault, asked, answerBy, answerOf, unless, answerFrom, questionAnswer}
+use Rattle.question.specs.Question.{needed, questionFault, asked, answerBy, answerOf, unless, answerFrom, questionAnswer, Question, question}
 use Rattle.demands.specs.Refusals as refusals
-use Rattle.demands.specs.Refusals.{SoundTable, MemoryRefused, QuestionRefused, CheckRefused, Lines}
+use Rattle.demands.specs.Refusals.{SoundTable, SoundRow, Whole, LinesRefused, TableRefused, RowRefused, ReadRefused, WriteRefused, QuestionRefused, CheckRefused, Lines}
+
+-- ---- what is sound
 
 pub sound-table : (b : List ℕ) (facts : List Fact) → tableOf b ≡ accepted facts ↔ SoundTable b facts
 sound-table b facts =
     let t = tableOf-accepted b facts in
     (λ e. record { bytes = t .0 e .0; sound = t .0 e .1 }, λ s. t .1 (s .bytes, s .sound))
 
+pub sound-row : (row : List ℕ) (facts : List Fact) → tableOfRow row ≡ accepted facts ↔ SoundRow row facts
+sound-row row facts =
+    let t = tableOfRow-accepted row facts in
+    (λ e. record { numbers = t .0 e .0; sound = t .0 e .1 }, λ s. t .1 (s .numbers, s .sound))
+
+-- ---- a table, and a row to write
+
+-- lines of k, where a size of whole lines is told from others by `sized`
+module _ (k size : ℕ) (earned : ℕ → Refusal → Bool) (says : sized k (k * 1024) size ≡ true → Whole k size (size / k))
+    (is : (n : ℕ) → Whole k size n → (sized k (k * 1024) size ≡ true) × (size / k ≡ n)) where
+  abbrev judge : ℕ → Verdict
+  judge i = firstEarned (earned i) tried
+
+  lines-say : (r : Refusal) (place : ℕ) → Refusable (sized k (k * 1024) size) judge (size / k) r place → LinesRefused k size earned r place
+  lines-say r place =
+      ⊎-elim
+      (λ (h : (sized k (k * 1024) size ≡ false) × (r ≡ Size) × (place ≡ 0)).
+      rw (h .1, h .2) (refusals.by-size (λ n w. let z : true ≡ false = sym (is n w .0) ∙ h .0 in let o : _≡_ {A = ℕ} 0 1 = cc in omega arith)))
+      (λ (h : (sized k (k * 1024) size ≡ true) × Stopped judge (size / k) r place).
+      rw (h .1 .counted)
+      (refusals.by-line (says (h .0)) (h .1 .within) (λ j l. first-none (earned j) tried .0 (h .1 .sound j l)) (first-earned (earned (h .1 .line)) tried r .0 (h .1 .refuses))))
+
+  lines-are : {r : Refusal} {place : ℕ} → LinesRefused k size earned r place → Refusable (sized k (k * 1024) size) judge (size / k) r place
+  lines-are (refusals.by-size torn) = inl (by-cases (sized k (k * 1024) size) (λ e. absurd (torn (size / k) (says e))) (λ e. e), refl, refl)
+  lines-are (refusals.by-line {n} {i} {r} w h before first) =
+      inr (
+        is n w .0,
+        record {
+          line = i;
+          counted = refl;
+          within = rw (is n w .1) h;
+          sound = λ j l. first-none (earned j) tried .1 (before j l);
+          refuses = first-earned (earned i) tried r .1 first;
+        },
+      )
+
+pub table-refused : (b : List ℕ) (r : Refusal) (place : ℕ) → tableOf b ≡ refused r place ↔ TableRefused b r place
+unfolding lineVerdict
+table-refused b r place =
+    let t = tableOf-refused b r place in
+    let says : sized 16 16384 (length b) ≡ true → Whole 16 (length b) (length b / 16) =
+    λ e. let s = sized-says 16 16384 (length b) e in record { exact = omega arith; few = omega arith } in
+    let is : (n : ℕ) → Whole 16 (length b) n → (sized 16 16384 (length b) ≡ true) × (length b / 16 ≡ n) =
+    λ n w. (sized-fits 16 16384 (length b) (omega (arith, w .exact)) (omega (arith, w .exact, w .few)), omega (arith, w .exact)) in
+    let earned : ℕ → Refusal → Bool = λ i. earns (laidOut 3 b (16 * i)) (lineFact b) i in
+    (λ e. lines-say 16 (length b) earned says is r place (t .0 e), λ h. t .1 (lines-are 16 (length b) earned says is h))
+
+pub row-refused : (row : List ℕ) (r : Refusal) (place : ℕ) → tableOfRow row ≡ refused r place ↔ RowRefused row r place
+unfolding rowVerdict
+row-refused row r place =
+    let t = tableOfRow-refused row r place in
+    let says : sized 3 3072 (length row) ≡ true → Whole 3 (length row) (length row / 3) =
+    λ e. let s = sized-says 3 3072 (length row) e in record { exact = omega arith; few = omega arith } in
+    let is : (n : ℕ) → Whole 3 (length row) n → (sized 3 3072 (length row) ≡ true) × (length row / 3 ≡ n) =
+    λ n w. (sized-fits 3 3072 (length row) (omega (arith, w .exact)) (omega (arith, w .exact, w .few)), omega (arith, w .exact)) in
+    let earned = earns true (rowFact row) in
+    (λ e. lines-say 3 (length row) earned says is r place (t .0 e), λ h. t .1 (lines-are 3 (length row) earned says is h))
+
 -- ---- reading and writing
 
-memory-says : (content : List Fact → List ℕ) (t u : Table) (m : ℕ) (r : Refusal) (place : ℕ) → t ≡ u → settled content u m ≡ Refused r place → MemoryRefused content t m r place
-unfolding settled
-memory-says content t (refused q p) m r place z e = let i : q ≡ r = cc in let j : p ≡ place = cc in rw (← i, ← j) (refusals.by-table z)
-memory-says content t (accepted facts) m r place z e =
-    by-cases (leb (length (content facts)) m)
-    (λ y. let u : Done (length facts) ≡ Refused r place = rw y at e in let k : _≡_ {A = ℕ} 0 1 = cc in absurd (omega arith))
-    (λ y. let u : Refused Short 0 ≡ Refused r place = rw y at e in
-    let i : Short ≡ r = cc in
-    let j : 0 ≡ place = cc in
-    rw (← i, ← j) (refusals.by-room z (leb-false _ _ y)))
+-- a table's own refusal, or 8 where what its facts take does not fit into m
+abbrev pub Lacks : (List Fact → ℕ) → Table → ℕ → Refusal → ℕ → Type 0
+Lacks takes t m r place = (t ≡ refused r place) ⊎ ((facts : List Fact) × (t ≡ accepted facts) × (m < takes facts) × (r ≡ Short) × (place ≡ 0))
 
-memory-is : {content : List Fact → List ℕ} {t : Table} {m : ℕ} {r : Refusal} {place : ℕ} → MemoryRefused content t m r place → settled content t m ≡ Refused r place
-unfolding settled
-memory-is (refusals.by-table z) = rw z
-memory-is (refusals.by-room z h) = rw (z, lt-leb _ _ h)
+-- what is answered so
+abbrev answers : (List Fact → ℕ) → Table → ℕ → Answer
+answers takes (accepted facts) m = cond (leb (takes facts) m) (Done (length facts)) (Refused Short 0)
+answers takes (refused r place) m = Refused r place
 
-pub memory-refused : (content : List Fact → List ℕ) (t : Table) (m : ℕ) (r : Refusal) (place : ℕ) → settled content t m ≡ Refused r place ↔ MemoryRefused content t m r place
-memory-refused content t m r place = (memory-says content t t m r place refl, memory-is)
+answers-lack : (takes : List Fact → ℕ) (t : Table) (m : ℕ) (r : Refusal) (place : ℕ) → answers takes t m ≡ Refused r place ↔ Lacks takes t m r place
+answers-lack takes (refused q p) m r place = (
+  λ e. let i : q ≡ r = cc in let j : p ≡ place = cc in inl (rw (i, j)),
+  ⊎-elim (λ (z : refused q p ≡ refused r place). let i : q ≡ r = cc in let j : p ≡ place = cc in rw (i, j))
+      (λ (h : (facts : List Fact) × (refused q p ≡ accepted facts) × (m < takes facts) × (r ≡ Short) × (place ≡ 0)). let z : _≡_ {A = ℕ} 0 1 = cc (h .1) in absurd (omega arith)),
+)
+answers-lack takes (accepted facts) m r place = (
+  λ e. by-cases (leb (takes facts) m)
+      (λ y. let u : Done (length facts) ≡ Refused r place = rw y at e in let k : _≡_ {A = ℕ} 0 1 = cc in absurd (omega arith))
+      (λ y. let u : Refused Short 0 ≡ Refused r place = rw y at e in
+      let i : r ≡ Short = cc in let j : place ≡ 0 = cc in inr (facts, refl, leb-false _ _ y, i, j)),
+  ⊎-elim (λ (z : accepted facts ≡ refused r place). let k : _≡_ {A = ℕ} 0 1 = cc in absurd (omega arith))
+      (λ (h : (fs : List Fact) × (accepted facts ≡ accepted fs) × (m < takes fs) × (r ≡ Short) × (place ≡ 0)).
+      let e : h .0 ≡ facts = cc (h .1) in rw (lt-leb (takes facts) m (rw e at (h .2)), h .3, h .4)),
+)
+
+settled-answers : (content : List Fact → List ℕ) (t : Table) (m : ℕ) → settled content t m ≡ answers (λ fs. length (content fs)) t m
+unfolding settled
+settled-answers content (accepted facts) m = refl
+settled-answers content (refused r place) m = refl
+
+records-answers : (t : Table) (m : ℕ) → settledRecords t m ≡ answers length t m
+unfolding settledRecords
+records-answers (accepted facts) m = refl
+records-answers (refused r place) m = refl
+
+-- so many numbers or records a fact are read
+reads : (k : ℕ) (takes : List Fact → ℕ) → ((facts : List Fact) → takes facts ≡ k * length facts) → (b : List ℕ) (m : ℕ) (r : Refusal) (place : ℕ)
+    → Lacks takes (tableOf b) m r place ↔ ReadRefused k b m r place
+reads k takes many b m r place = (
+  ⊎-elim (λ (z : tableOf b ≡ refused r place). refusals.by-table (table-refused b r place .0 z))
+      (λ (h : (facts : List Fact) × (tableOf b ≡ accepted facts) × (m < takes facts) × (r ≡ Short) × (place ≡ 0)).
+      rw (h .3, h .4) (refusals.by-room (sound-table b (h .0) .0 (h .1)) (rw many at (h .2)))),
+  back,
+)
+  where
+    back : {r : Refusal} {place : ℕ} → ReadRefused k b m r place → Lacks takes (tableOf b) m r place
+    back {r} {place} (refusals.by-table z) = inl (table-refused b r place .1 z)
+    back (refusals.by-room {facts} s h) = inr (facts, sound-table b facts .1 s, rw many h, refl, refl)
+
+pub read-refused : (b : List ℕ) (m : ℕ) (r : Refusal) (place : ℕ) → settled rowOf (tableOf b) m ≡ Refused r place ↔ ReadRefused 3 b m r place
+read-refused b m r place =
+    let a = answers-lack (λ fs. length (rowOf fs)) (tableOf b) m r place in
+    let g = reads 3 (λ fs. length (rowOf fs)) row-length b m r place in
+    let e = settled-answers rowOf (tableOf b) m in
+    (λ z. g .0 (a .0 (sym e ∙ z)), λ h. e ∙ a .1 (g .1 h))
+
+pub facts-refused : (b : List ℕ) (m : ℕ) (r : Refusal) (place : ℕ) → settledRecords (tableOf b) m ≡ Refused r place ↔ ReadRefused 1 b m r place
+facts-refused b m r place =
+    let a = answers-lack length (tableOf b) m r place in
+    let g = reads 1 length (λ facts. omega arith) b m r place in
+    let e = records-answers (tableOf b) m in
+    (λ z. g .0 (a .0 (sym e ∙ z)), λ h. e ∙ a .1 (g .1 h))
+
+pub write-refused : (row : List ℕ) (m : ℕ) (r : Refusal) (place : ℕ) → settled tableBytes (tableOfRow row) m ≡ Refused r place ↔ WriteRefused row m r place
+write-refused row m r place =
+    let a = answers-lack (λ fs. length (tableBytes fs)) (tableOfRow row) m r place in
+    let e = settled-answers tableBytes (tableOfRow row) m in
+    (λ z. forth (a .0 (sym e ∙ z)), λ h. e ∙ a .1 (back h))
+  where
+    forth : {r : Refusal} {place : ℕ} → Lacks (λ fs. length (tableBytes fs)) (tableOfRow row) m r place → WriteRefused row m r place
+    forth {r} {place} =
+        ⊎-elim (λ (z : tableOfRow row ≡ refused r place). refusals.by-row (row-refused row r place .0 z))
+        (λ (h : (facts : List Fact) × (tableOfRow row ≡ accepted facts) × (m < length (tableBytes facts)) × (r ≡ Short) × (place ≡ 0)).
+        rw (h .3, h .4) (refusals.by-room (sound-row row (h .0) .0 (h .1)) (rw bytes-length at (h .2))))
+
+    back : {r : Refusal} {place : ℕ} → WriteRefused row m r place → Lacks (λ fs. length (tableBytes fs)) (tableOfRow row) m r place
+    back {r} {place} (refusals.by-row z) = inl (row-refused row r place .1 z)
+    back (refusals.by-room {facts} s h) = inr (facts, sound-row row facts .1 s, rw bytes-length h, refl, refl)
 
 -- a refusal leaves the memory as it was
 pub memory-unchanged : (content : List Fact → List ℕ) (t : Table) (old : List ℕ) (r : Refusal) (place : ℕ) → settled content t (length old) ≡ Refused r place → filled content t old ≡ old
@@ -76,9 +198,17 @@ memory-unchanged content (accepted facts) old r place e =
     (λ y. let u : Done (length facts) ≡ Refused r place = rw y at e in let k : _≡_ {A = ℕ} 0 1 = cc in absurd (omega arith))
     (λ y. rw y)
 
+pub records-unchanged : (t : Table) (old : List Fact) (r : Refusal) (place : ℕ) → settledRecords t (length old) ≡ Refused r place → filledRecords t old ≡ old
+unfolding settledRecords filledRecords
+records-unchanged (refused q p) old r place e = refl
+records-unchanged (accepted facts) old r place e =
+    by-cases (leb (length facts) (length old))
+    (λ y. let u : Done (length facts) ≡ Refused r place = rw y at e in let k : _≡_ {A = ℕ} 0 1 = cc in absurd (omega arith))
+    (λ y. rw y)
+
 -- ---- the question
 
-no-refusal : (limit : ℕ) (o : Option ℕ) (r : Refusal) (place : ℕ) → answerBy limit o ≡ Refused r place → ⊥
+pub no-refusal : (limit : ℕ) (o : Option ℕ) (r : Refusal) (place : ℕ) → answerBy limit o ≡ Refused r place → ⊥
 unfolding answerBy
 no-refusal limit none r place e = let z : _≡_ {A = ℕ} 0 1 = cc in omega arith
 no-refusal limit (some f) r place e =
@@ -87,7 +217,7 @@ no-refusal limit (some f) r place e =
     (λ y. let u : Long f ≡ Refused r place = rw y at e in let z : _≡_ {A = ℕ} 0 1 = cc in omega arith)
 
 asked-says : (b : List ℕ) (facts : List Fact) (t : Fact) (limit m : ℕ) (v : Verdict) (r : Refusal) → SoundTable b facts → faultOf t ≡ v
-    → orElse v (cond (leb limit 1024) (cond (leb (needed limit) m) Sound (Faulty Short)) (Faulty Allowance)) ≡ Faulty r → QuestionRefused b t limit m r 0
+    → orElse v (cond (leb limit 1024) (cond (leb (needed limit) m) Sound (Faulty Short)) (Faulty Allowance)) ≡ Faulty r → QuestionRefused (question b t limit) m r 0
 unfolding orElse
 asked-says b facts t limit m (Faulty q) r s z e = let i : q ≡ r = cc in rw (← i) (refusals.by-fact s z)
 asked-says b facts t limit m Sound r s z e =
@@ -99,7 +229,7 @@ asked-says b facts t limit m Sound r s z e =
     (λ y. let u : Faulty Allowance ≡ Faulty r = rw y at e in let i : Allowance ≡ r = cc in rw (← i) (refusals.by-limit s w (leb-false _ _ y)))
 
 unless-says : (b : List ℕ) (facts : List Fact) (t : Fact) (limit m : ℕ) (v : Verdict) (r : Refusal) (place : ℕ) → SoundTable b facts → asked t limit m ≡ v
-    → unless v (answerOf facts t limit) ≡ Refused r place → QuestionRefused b t limit m r place
+    → unless v (answerOf facts t limit) ≡ Refused r place → QuestionRefused (question b t limit) m r place
 unfolding unless answerOf asked questionFault
 unless-says b facts t limit m Sound r place s z e = absurd (no-refusal limit (fewest facts t) r place e)
 unless-says b facts t limit m (Faulty q) r place s z e =
@@ -107,20 +237,20 @@ unless-says b facts t limit m (Faulty q) r place s z e =
     let j : 0 ≡ place = cc in
     rw (← j) (asked-says b facts t limit m (faultOf t) r s refl (rw i at z))
 
-question-says : (b : List ℕ) (t : Fact) (limit m : ℕ) (u : Table) (r : Refusal) (place : ℕ) → tableOf b ≡ u → answerFrom u t limit m ≡ Refused r place → QuestionRefused b t limit m r place
+question-says : (b : List ℕ) (t : Fact) (limit m : ℕ) (u : Table) (r : Refusal) (place : ℕ) → tableOf b ≡ u → answerFrom u t limit m ≡ Refused r place → QuestionRefused (question b t limit) m r place
 unfolding answerFrom
-question-says b t limit m (refused q p) r place z e = let i : q ≡ r = cc in let j : p ≡ place = cc in rw (← i, ← j) (refusals.by-table z)
+question-says b t limit m (refused q p) r place z e = let i : q ≡ r = cc in let j : p ≡ place = cc in rw (← i, ← j) (refusals.by-table (table-refused b q p .0 z))
 question-says b t limit m (accepted facts) r place z e = unless-says b facts t limit m (asked t limit m) r place (sound-table b facts .0 z) refl e
 
-question-is : {b : List ℕ} {t : Fact} {limit m : ℕ} {r : Refusal} {place : ℕ} → QuestionRefused b t limit m r place → questionAnswer b t limit m ≡ Refused r place
+question-is : {q : Question} {m : ℕ} {r : Refusal} {place : ℕ} → QuestionRefused q m r place → questionAnswer (q .table) (q .fact) (q .limit) m ≡ Refused r place
 unfolding questionAnswer answerFrom unless asked orElse questionFault
-question-is (refusals.by-table z) = rw z
-question-is {b} (refusals.by-fact {facts} s z) = rw (sound-table b facts .1 s, z)
-question-is {b} {t} (refusals.by-limit {facts} s w h) = rw (sound-table b facts .1 s, fault-none t .1 w, lt-leb _ _ h)
-question-is {b} {t} (refusals.by-room {facts} s w h k) = rw (sound-table b facts .1 s, fault-none t .1 w, le-leb _ _ h, lt-leb _ _ k)
+question-is {q} {m} {r} {place} (refusals.by-table z) = rw (table-refused (q .table) r place .1 z)
+question-is {q} (refusals.by-fact {facts} s z) = rw (sound-table (q .table) facts .1 s, z)
+question-is {q} (refusals.by-limit {facts} s w h) = rw (sound-table (q .table) facts .1 s, fault-none (q .fact) .1 w, lt-leb _ _ h)
+question-is {q} (refusals.by-room {facts} s w h k) = rw (sound-table (q .table) facts .1 s, fault-none (q .fact) .1 w, le-leb _ _ h, lt-leb _ _ k)
 
-pub question-refused : (b : List ℕ) (t : Fact) (limit m : ℕ) (r : Refusal) (place : ℕ) → questionAnswer b t limit m ≡ Refused r place ↔ QuestionRefused b t limit m r place
-question-refused b t limit m r place = (unfold questionAnswer in question-says b t limit m (tableOf b) r place refl, question-is)
+pub question-refused : (q : Question) (m : ℕ) (r : Refusal) (place : ℕ) → questionAnswer (q .table) (q .fact) (q .limit) m ≡ Refused r place ↔ QuestionRefused q m r place
+question-refused q m r place = (unfold questionAnswer in question-says (q .table) (q .fact) (q .limit) m (tableOf (q .table)) r place refl, question-is)
 
 -- ---- the check
 
@@ -207,7 +337,7 @@ fact-says b facts t x (Faulty q) r place s z e = let i : q ≡ r = cc in let j :
 
 check-says : (b : List ℕ) (t : Fact) (x : List ℕ) (u : Table) (r : Refusal) (place : ℕ) → tableOf b ≡ u → tableAnswer u t x ≡ Refused r place → CheckRefused b t x r place
 unfolding tableAnswer
-check-says b t x (refused q p) r place z e = let i : q ≡ r = cc in let j : p ≡ place = cc in rw (← i, ← j) (refusals.by-table z)
+check-says b t x (refused q p) r place z e = let i : q ≡ r = cc in let j : p ≡ place = cc in rw (← i, ← j) (refusals.by-table (table-refused b q p .0 z))
 check-says b t x (accepted facts) r place z e = fact-says b facts t x (faultOf t) r place (sound-table b facts .0 z) refl e
 
 -- over a sound table, for a well-formed fact, the check is that of the lines
@@ -256,7 +386,7 @@ stops-at : (judge : ℕ → Verdict) (n i : ℕ) (r : Refusal) → i < n → ((j
 stops-at judge n i r h before bad = scan-stopped judge n r (suc i) .1 (record { line = i; counted = refl; within = h; sound = before; refuses = bad })
 
 check-is : {b : List ℕ} {t : Fact} {x : List ℕ} {r : Refusal} {place : ℕ} → CheckRefused b t x r place → checkAnswer b t x ≡ Refused r place
-check-is (refusals.by-table z) = unfold checkAnswer tableAnswer in (rw z)
+check-is {b} {t} {x} {r} {place} (refusals.by-table z) = unfold checkAnswer tableAnswer in (rw (table-refused b r place .1 z))
 check-is {b} (refusals.by-fact {facts} s z) = unfold checkAnswer tableAnswer factAnswer in (rw (sound-table b facts .1 s, z))
 check-is {b} {t} {x} (refusals.by-size {facts} s w torn) = size-bad b facts t x s w torn
 check-is {b} {t} {x} (refusals.by-form {facts} {n} {i} s w l h before bad) =

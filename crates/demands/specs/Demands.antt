@@ -1,143 +1,167 @@
--- The customer's three demands, a record for each and a field for each sentence.
+-- The customer's three demands, a record for each and a field for each sentence. They assume of a call its equations alone
+-- (`QuestionCall`, `CheckCall`, `ReadCall`, `WriteCall`, `TransfersRecords`: what the functions' contracts say under the name `call`), and
+-- speak of its result by document 01's numbers: `unpacked r` has number, place and count.
 -- Assumes nothing.
 use mathlib.Core.Path.{_≡_}
 use mathlib.Core.Logic.{_↔_, _⊎_}
-use mathlib.Core.List.{List, _++_}
-use Prim.Native.Nat.{ℕ, suc, _+_, _≤_, _<_}
-use lib.ListN.{length, drop}
+use mathlib.Core.List.{List, [], _∷_, _++_}
+use Prim.Native.Nat.{ℕ, _*_, _≤_, _<_}
+use lib.ListN.{length, take}
 use lib.Dec.{T}
-use Rattle.columns.specs.Lines.{over}
+use Rattle.columns.specs.Lines.{line, over}
 use Rattle.facts.specs.declared.Fact.{Fact}
 use Rattle.facts.specs.declared.Refusal.{Refusal}
-use Rattle.facts.specs.declared.Verdict.the-variants.{Sound}
+use Rattle.facts.specs.declared.Refusal.the-variants.{Form}
 use Rattle.facts.specs.declared.Answer.{Answer}
-use Rattle.facts.specs.Facts.{wellFormed, faultOf}
-use Rattle.facts.specs.Answers.{codeOf, numbered, numberOf}
-use Rattle.table.specs.Tables.{rowOf, tableBytes, tableOf, tableOfRow, accepted, settled, filled}
+use Rattle.facts.specs.declared.Code.{Code}
+use Rattle.facts.specs.Facts.{wellFormed}
+use Rattle.facts.specs.Answers.{codeOf, numberOf, YesWith, LongWith, Follows, SaysNo, AcceptedWith, DoneWith, RefusedWith}
+use Rattle.table.specs.Tables.{rowOf}
 use Rattle.rules.specs.declared.Line.{Line}
 use Rattle.rules.specs.Graph.{_∈_}
 use Rattle.rules.specs.Rules.{Rule}
 use Rattle.rules.specs.Derivations.{Derives, Derivable, tableLines, Least, Refuted}
-use Rattle.rules.specs.Order.{InOrder}
-use Rattle.derivation.specs.Bytes.{derivationBytes}
-use Rattle.acceptance.specs.Check.{checkAnswer}
-use Rattle.question.specs.Question.{needed, questionAnswer, Answered}
-use Rattle.demands.specs.Refusals.{SoundTable, MemoryRefused, QuestionRefused, CheckRefused}
+use Rattle.acceptance.specs.Check.{DerivationOf}
+use Rattle.question.specs.Question.{needed, Question, question, Prints}
+use Rattle.records.specs.Records.{overRecords, TransfersRecords}
+use Rattle.entail.specs.Packed.{unpacked}
+use Rattle.entail.specs.Calls.{QuestionCall, CheckCall, ReadCall, WriteCall}
+use Rattle.batch.specs.declared.Query.{Query}
+use Rattle.batch.specs.Output.{outputOf}
+use Rattle.batch.specs.Whole.{Laid}
+use Rattle.demands.specs.Refusals.{SoundTable, SoundQuestion, SoundCheck, TableRefused, RowRefused, SoundRow, FactRefused, ReadRefused, WriteRefused, QuestionRefused, CheckRefused}
 
--- ---- answers by document 01's numbers
+-- ---- a call, and what it said
 
-abbrev pub Says : Answer → ℕ → ℕ → ℕ → Type 0
-Says a number place count = codeOf a ≡ numbered number place count
+-- a question that was put, sound or not: the output, document 01's paper, before and after, and the result
+pub record Put : Type 0 where
+  pub question : Question
+  pub entry : List ℕ
+  pub exit : List ℕ
+  pub result : ℕ
+  pub call : QuestionCall question entry exit result
 
-abbrev pub YesWith : Answer → ℕ → Type 0
-YesWith a f = Says a 90 0 f
+-- its number, place and count
+abbrev pub said : Put → Code
+said p = unpacked (p .result)
 
-abbrev pub LongWith : Answer → ℕ → Type 0
-LongWith a f = Says a 92 0 f
+-- it was sound, over a table with these facts
+abbrev pub SoundPut : Put → List Fact → Type 0
+SoundPut p facts = SoundQuestion (p .question) facts (length (p .entry))
 
--- yes or "long", with the count f
-abbrev pub Follows : Answer → ℕ → Type 0
-Follows a f = YesWith a f ⊎ LongWith a f
-
-abbrev pub SaysNo : Answer → Type 0
-SaysNo a = Says a 91 0 0
-
-abbrev pub AcceptedWith : Answer → ℕ → Type 0
-AcceptedWith a c = Says a 93 0 c
-
--- a refusal with document 01's number, at a place, count 0
-abbrev pub RefusedWith : Answer → Refusal → ℕ → Type 0
-RefusedWith a r place = Says a (numberOf r) place 0
-
--- ---- sound input: said of what it is, not of the program's tests
-
--- limit is document 01's allowance, m the bytes of its paper
-pub record SoundInput (b : List ℕ) (facts : List Fact) (t : Fact) (limit m : ℕ) : Type 0 where
-  pub table : SoundTable b facts
-  pub fact : T (wellFormed t)
-  pub limited : limit ≤ 1024
-  pub room : needed limit ≤ m
+-- the check says of x, as a derivation of t from the table b, that it is accepted with n table lines
+abbrev pub Accepts : List ℕ → Fact → List ℕ → ℕ → Type 0
+Accepts b t x n = (r : ℕ) → CheckCall b t x r → AcceptedWith (unpacked r) n
 
 -- all facts of part stand in the facts
 abbrev pub Within : List Fact → List Fact → Type 0
 Within part facts = (f : Fact) → f ∈ part → f ∈ facts
+
+-- ---- what the program prints
+
+-- the line with number, place and count
+abbrev pub heading : Code → List ℕ
+heading c = line (c .number ∷ c .place ∷ c .count ∷ [])
+
+-- the reply to a question about a table: what some call of the question gives that has output enough for every limit
+pub record Reply (table : List ℕ) (q : Query) (bytes : List ℕ) : Type 0 where
+  pub put : Put
+  pub asks : put .question ≡ question table (q .fact) (q .limit)
+  pub room : needed 1024 ≤ length (put .entry)
+  -- first its number, place and count; then the derivation, if there is one
+  pub derivation : List ℕ
+  pub is : bytes ≡ heading (said put) ++ derivation
+  pub plain : (said put .number ≡ 90 → ⊥) → derivation ≡ []
+  -- behind 90 stands the derivation that the call printed: sound, in order, of 2 f - 1 lines, and accepted by the check with f
+  pub yes : (f : ℕ) → YesWith (said put) f
+      → (facts : List Fact) × SoundTable table facts × (put .exit ≡ over derivation (put .entry)) × Prints facts (q .fact) f derivation × Accepts table (q .fact) derivation f
+
+-- the replies to some questions, one behind the other
+pub data Replies (table : List ℕ) : List Query → List ℕ → Type 0 where
+  none : Replies table [] []
+  more : {q : Query} {qs : List Query} {first rest : List ℕ} → Reply table q first → Replies table qs rest → Replies table (q ∷ qs) (first ++ rest)
 
 -- ---- demand 1
 
 -- "A panel that hands over a torn table, an impossible question, a false derivation or short memory gets the refusal number laid down for it
 -- and finds its memory unchanged. Every call ends." (That every call ends is part of each function's proof.)
 pub record Demand-1 : Type 1 where
-  -- the refusal laid down, and no other: the question
-  pub question-refused : (b : List ℕ) (t : Fact) (limit m : ℕ) (r : Refusal) (place : ℕ)
-      → RefusedWith (questionAnswer b t limit m) r place ↔ QuestionRefused b t limit m r place
-  pub question-unchanged : (b : List ℕ) (t : Fact) (limit : ℕ) (entry exit : List ℕ) (a : Answer) (r : Refusal) (place : ℕ)
-      → Answered b t limit entry exit a → RefusedWith a r place → exit ≡ entry
+  -- the refusal laid down, with its place, and no other: the question
+  pub question-refused : (p : Put) (r : Refusal) (place : ℕ) → RefusedWith (said p) r place ↔ QuestionRefused (p .question) (length (p .entry)) r place
+  pub question-unchanged : (p : Put) (r : Refusal) (place : ℕ) → RefusedWith (said p) r place → p .exit ≡ p .entry
   -- the check, to which no memory is lent for writing
-  pub check-refused : (b : List ℕ) (t : Fact) (x : List ℕ) (r : Refusal) (place : ℕ) → RefusedWith (checkAnswer b t x) r place ↔ CheckRefused b t x r place
-  -- reading
-  pub read-refused : (b : List ℕ) (m : ℕ) (r : Refusal) (place : ℕ) → RefusedWith (settled rowOf (tableOf b) m) r place ↔ MemoryRefused rowOf (tableOf b) m r place
-  pub read-unchanged : (b old : List ℕ) (r : Refusal) (place : ℕ) → RefusedWith (settled rowOf (tableOf b) (length old)) r place → filled rowOf (tableOf b) old ≡ old
+  pub check-refused : {b : List ℕ} {t : Fact} {x : List ℕ} {n : ℕ} → CheckCall b t x n → (r : Refusal) (place : ℕ) → RefusedWith (unpacked n) r place ↔ CheckRefused b t x r place
+  -- reading into three numbers a fact
+  pub read-refused : {b entry exit : List ℕ} {n : ℕ} → ReadCall b entry exit n → (r : Refusal) (place : ℕ) → RefusedWith (unpacked n) r place ↔ ReadRefused 3 b (length entry) r place
+  pub read-unchanged : {b entry exit : List ℕ} {n : ℕ} → ReadCall b entry exit n → (r : Refusal) (place : ℕ) → RefusedWith (unpacked n) r place → exit ≡ entry
+  -- reading into a record a fact
+  pub facts-refused : {b : List ℕ} {entry exit : List Fact} {a : Answer} → TransfersRecords b entry exit a → (r : Refusal) (place : ℕ)
+      → RefusedWith (codeOf a) r place ↔ ReadRefused 1 b (length entry) r place
+  pub facts-unchanged : {b : List ℕ} {entry exit : List Fact} {a : Answer} → TransfersRecords b entry exit a → (r : Refusal) (place : ℕ) → RefusedWith (codeOf a) r place → exit ≡ entry
   -- writing
-  pub write-refused : (row : List ℕ) (m : ℕ) (r : Refusal) (place : ℕ)
-      → RefusedWith (settled tableBytes (tableOfRow row) m) r place ↔ MemoryRefused tableBytes (tableOfRow row) m r place
-  pub write-unchanged : (row old : List ℕ) (r : Refusal) (place : ℕ)
-      → RefusedWith (settled tableBytes (tableOfRow row) (length old)) r place → filled tableBytes (tableOfRow row) old ≡ old
+  pub write-refused : {row entry exit : List ℕ} {n : ℕ} → WriteCall row entry exit n → (r : Refusal) (place : ℕ) → RefusedWith (unpacked n) r place ↔ WriteRefused row (length entry) r place
+  pub write-unchanged : {row entry exit : List ℕ} {n : ℕ} → WriteCall row entry exit n → (r : Refusal) (place : ℕ) → RefusedWith (unpacked n) r place → exit ≡ entry
+  -- the program: an input that is not laid out as document 01 writes it down gets one line, 9
+  pub program-torn : (b : List ℕ) → ((table : List ℕ) (qs : List Query) → Laid b table qs → ⊥) → outputOf b ≡ line (numberOf Form ∷ 0 ∷ 0 ∷ [])
 
 -- ---- demand 2
 
 pub record Demand-2 : Type 1 where
-  -- sound exactly where accepted
-  pub table-sound : (b : List ℕ) (facts : List Fact) → tableOf b ≡ accepted facts ↔ SoundTable b facts
-  pub fact-sound : (t : Fact) → faultOf t ≡ Sound ↔ T (wellFormed t)
+  -- sound is what no refusal is laid down for: a table, a row, a fact; a whole question; a whole check
+  pub table-sound : (b : List ℕ) → ((facts : List Fact) × SoundTable b facts) ↔ ((r : Refusal) (place : ℕ) → TableRefused b r place → ⊥)
+  pub row-sound : (row : List ℕ) → ((facts : List Fact) × SoundRow row facts) ↔ ((r : Refusal) (place : ℕ) → RowRefused row r place → ⊥)
+  pub fact-sound : (t : Fact) → T (wellFormed t) ↔ ((r : Refusal) → FactRefused t r → ⊥)
+  pub question-sound : (q : Question) (m : ℕ) → ((facts : List Fact) × SoundQuestion q facts m) ↔ ((r : Refusal) (place : ℕ) → QuestionRefused q m r place → ⊥)
+  pub check-sound : (b : List ℕ) (t : Fact) (x : List ℕ) → ((facts : List Fact) × (n : ℕ) × SoundCheck b facts t x n) ↔ ((r : Refusal) (place : ℕ) → CheckRefused b t x r place → ⊥)
   -- "With a sound table, fact, allowance and paper an answer always comes."
-  pub answered : (b : List ℕ) (facts : List Fact) (t : Fact) (limit m : ℕ) → SoundInput b facts t limit m
-      → ((f : ℕ) × Follows (questionAnswer b t limit m) f) ⊎ SaysNo (questionAnswer b t limit m)
+  pub answered : (p : Put) (facts : List Fact) → SoundPut p facts → ((f : ℕ) × Follows (said p) f) ⊎ SaysNo (said p)
   -- "Yes or "long" comes when some finite derivation by the published rules as our papers list them, from the table's facts, ends in the fact
   -- put, and only then;"
-  pub follows : (b : List ℕ) (facts : List Fact) (t : Fact) (limit m : ℕ) → SoundInput b facts t limit m
-      → ((f : ℕ) × Follows (questionAnswer b t limit m) f) ↔ Derivable Rule facts t
+  pub follows : (p : Put) (facts : List Fact) → SoundPut p facts → ((f : ℕ) × Follows (said p) f) ↔ Derivable Rule facts (p .question .fact)
   -- "no when some set of facts closed under the rules holds the table and lacks that fact, and only then."
-  pub refuted : (b : List ℕ) (facts : List Fact) (t : Fact) (limit m : ℕ) → SoundInput b facts t limit m
-      → SaysNo (questionAnswer b t limit m) ↔ Refuted Rule facts t
+  pub refuted : (p : Put) (facts : List Fact) → SoundPut p facts → SaysNo (said p) ↔ Refuted Rule facts (p .question .fact)
   -- "The check accepts exactly the derivations of at most 2,047 lines."
-  pub checked : (b : List ℕ) (facts : List Fact) (t : Fact) (x : List ℕ) (c : ℕ) → SoundTable b facts → T (wellFormed t)
-      → AcceptedWith (checkAnswer b t x) c ↔ ((d : List Line) × (x ≡ derivationBytes d) × (0 < length d) × (length d ≤ 2047) × Derives Rule facts d t × (tableLines d ≡ c))
-  -- "A table read and written again has the same bytes." Reading fills a row of at least 3 numbers a fact, writing memory of at least 16 bytes
-  -- a fact
-  pub read-written : (b : List ℕ) (facts : List Fact) (row out : List ℕ) → SoundTable b facts → length (rowOf facts) ≤ length row → length b ≤ length out
-      → (filled rowOf (tableOf b) row ≡ over (rowOf facts) row) × (filled tableBytes (tableOfRow (rowOf facts)) out ≡ over b out)
+  pub checked : {b : List ℕ} {t : Fact} {x : List ℕ} {n : ℕ} → CheckCall b t x n → (facts : List Fact) → SoundTable b facts → T (wellFormed t)
+      → (c : ℕ) → AcceptedWith (unpacked n) c ↔ DerivationOf facts t x c
+  -- "A table read and written again has the same bytes." Reading fills the front of a row of at least 3 numbers a fact, and those very
+  -- numbers are written into memory of at least 16 bytes a fact; each gives 0 and the number of facts
+  pub read-written : {b row row′ out out′ : List ℕ} {n m : ℕ} {facts : List Fact} → SoundTable b facts → 3 * length facts ≤ length row → 16 * length facts ≤ length out
+      → ReadCall b row row′ n → WriteCall (take (3 * length facts) row′) out out′ m
+      → DoneWith (unpacked n) (length facts) × DoneWith (unpacked m) (length facts) × (row′ ≡ over (rowOf facts) row) × (out′ ≡ over b out)
+  -- the same of a row of fact records, whose numbers are written
+  pub facts-written : {b out out′ : List ℕ} {row row′ : List Fact} {a : Answer} {m : ℕ} {facts : List Fact} → SoundTable b facts → length facts ≤ length row
+      → 16 * length facts ≤ length out → TransfersRecords b row row′ a → WriteCall (rowOf (take (length facts) row′)) out out′ m
+      → DoneWith (codeOf a) (length facts) × DoneWith (unpacked m) (length facts) × (row′ ≡ overRecords facts row) × (out′ ≡ over b out)
 
 -- ---- demand 3
 
 pub record Demand-3 : Type 1 where
   -- "Whatever sound table, fact and allowance are put, and whatever the paper held before, the count given with yes or "long" is the least,
   -- document 01's f." It never exceeds the table's facts.
-  pub least : (b : List ℕ) (facts : List Fact) (t : Fact) (limit : ℕ) (entry exit : List ℕ) (a : Answer) (f : ℕ)
-      → SoundInput b facts t limit (length entry) → Answered b t limit entry exit a → Follows a f → Least Rule facts t f × (f ≤ length facts)
+  pub least : (p : Put) (facts : List Fact) → SoundPut p facts → (f : ℕ) → Follows (said p) f → Least Rule facts (p .question .fact) f × (f ≤ length facts)
   -- "Every derivation of that fact by those rules, of any length, over the table or over any accepted table whose facts all stand in it, has at
   -- least as many table lines."
-  pub no-fewer : (b : List ℕ) (facts : List Fact) (t : Fact) (limit : ℕ) (entry exit : List ℕ) (a : Answer) (f : ℕ)
-      → SoundInput b facts t limit (length entry) → Answered b t limit entry exit a → Follows a f
-      → (part : List Fact) → Within part facts → (d : List Line) → Derives Rule part d t → f ≤ tableLines d
+  pub no-fewer : (p : Put) (facts : List Fact) → SoundPut p facts → (f : ℕ) → Follows (said p) f
+      → (part : List Fact) → Within part facts → (d : List Line) → Derives Rule part d (p .question .fact) → f ≤ tableLines d
   -- "So has each that the check accepts over them, by the number it gives."
-  pub no-fewer-checked : (b : List ℕ) (facts : List Fact) (t : Fact) (limit : ℕ) (entry exit : List ℕ) (a : Answer) (f : ℕ)
-      → SoundInput b facts t limit (length entry) → Answered b t limit entry exit a → Follows a f
-      → (b′ : List ℕ) (part : List Fact) → SoundTable b′ part → Within part facts → (x : List ℕ) (c : ℕ) → AcceptedWith (checkAnswer b′ t x) c → f ≤ c
+  pub no-fewer-checked : (p : Put) (facts : List Fact) → SoundPut p facts → (f : ℕ) → Follows (said p) f
+      → (b : List ℕ) (part : List Fact) → SoundTable b part → Within part facts → (x : List ℕ) (n : ℕ) → CheckCall b (p .question .fact) x n
+      → (c : ℕ) → AcceptedWith (unpacked n) c → f ≤ c
   -- "With every sound allowance, and paper for it, that fact gets yes or "long" with the same count, and yes exactly when the allowance is at
   -- least that count."
-  pub same-count : (b : List ℕ) (facts : List Fact) (t : Fact) (limit : ℕ) (entry exit : List ℕ) (a : Answer) (f : ℕ)
-      → SoundInput b facts t limit (length entry) → Answered b t limit entry exit a → Follows a f
-      → (limit′ : ℕ) (entry′ exit′ : List ℕ) (a′ : Answer) → SoundInput b facts t limit′ (length entry′) → Answered b t limit′ entry′ exit′ a′
-      → (f ≤ limit′ → YesWith a′ f) × (limit′ < f → LongWith a′ f)
+  pub same-count : (p : Put) (facts : List Fact) → SoundPut p facts → (f : ℕ) → Follows (said p) f
+      → (p′ : Put) (limit : ℕ) → p′ .question ≡ question (p .question .table) (p .question .fact) limit → SoundPut p′ facts
+      → (f ≤ limit ↔ YesWith (said p′) f) × (limit < f ↔ LongWith (said p′) f)
   -- "With each yes the box prints a derivation with exactly that many table lines, of the length and in the order laid down in document 01, and
   -- the check accepts it for that table and fact, with that count."
-  pub printed : (b : List ℕ) (facts : List Fact) (t : Fact) (limit : ℕ) (entry exit : List ℕ) (a : Answer) (f : ℕ)
-      → SoundInput b facts t limit (length entry) → Answered b t limit entry exit a → YesWith a f
-      → (d : List Line) × (exit ≡ derivationBytes d ++ drop (length (derivationBytes d)) entry) × (suc (length d) ≡ f + f) × (tableLines d ≡ f)
-      × InOrder d × Derives Rule facts d t × AcceptedWith (checkAnswer b t (derivationBytes d)) f
+  pub printed : (p : Put) (facts : List Fact) → SoundPut p facts → (f : ℕ) → YesWith (said p) f
+      → (x : List ℕ) × (p .exit ≡ over x (p .entry)) × Prints facts (p .question .fact) f x × Accepts (p .question .table) (p .question .fact) x f
   -- "Where it says no, no derivation of the fact exists and the check accepts none, over the table or over any accepted one whose facts all
   -- stand in it."
-  pub none : (b : List ℕ) (facts : List Fact) (t : Fact) (limit : ℕ) (entry exit : List ℕ) (a : Answer)
-      → SoundInput b facts t limit (length entry) → Answered b t limit entry exit a → SaysNo a
-      → (part : List Fact) → Within part facts
-      → ((d : List Line) → Derives Rule part d t → ⊥) × ((b′ : List ℕ) → SoundTable b′ part → (x : List ℕ) (c : ℕ) → AcceptedWith (checkAnswer b′ t x) c → ⊥)
+  pub none : (p : Put) (facts : List Fact) → SoundPut p facts → SaysNo (said p) → (part : List Fact) → Within part facts
+      → ((d : List Line) → Derives Rule part d (p .question .fact) → ⊥)
+      × ((b : List ℕ) → SoundTable b part → (x : List ℕ) (n : ℕ) → CheckCall b (p .question .fact) x n → (c : ℕ) → AcceptedWith (unpacked n) c → ⊥)
+  -- "91 and 92 write nothing."
+  pub unwritten : (p : Put) (f : ℕ) → LongWith (said p) f ⊎ SaysNo (said p) → p .exit ≡ p .entry
+  -- what the program prints for an input that is laid out: the reply to each question, in order, and nothing else
+  pub program : (b table : List ℕ) (qs : List Query) → Laid b table qs → Replies table qs (outputOf b)

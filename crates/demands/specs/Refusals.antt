@@ -1,7 +1,8 @@
--- Which refusal document 01 lays down for an input: the first that applies, in the order in which its papers try them.
+-- Which refusal document 01 lays down for an input: the first that applies, in the order in which its papers try them; and what is sound,
+-- said of what it is. Nothing here speaks of a scan, a test or an answer of the program.
 -- Assumes nothing.
 use mathlib.Core.Path.{_≡_}
-use mathlib.Core.Bool.{false, true}
+use mathlib.Core.Bool.{Bool, false, true}
 use mathlib.Core.List.{List}
 use Prim.Native.Nat.{ℕ, suc, _-_, _*_, _≤_, _<_}
 use lib.ListN.{length}
@@ -9,36 +10,89 @@ use lib.Dec.{T}
 use Rattle.columns.specs.Lines.{laidOut}
 use Rattle.facts.specs.declared.Fact.{Fact}
 use Rattle.facts.specs.declared.Refusal.{Refusal}
-use Rattle.facts.specs.declared.Refusal.the-variants.{Allowance, Short, Form, Step, End}
+use Rattle.facts.specs.declared.Refusal.the-variants.{Size, Allowance, Short, Form, Step, End}
 use Rattle.facts.specs.declared.Verdict.the-variants.{Faulty}
 use Rattle.facts.specs.Facts.{wellFormed, faultOf}
-use Rattle.table.specs.Tables.{Table, accepted, refused, tableOf, Sound, tableBytes}
+use Rattle.table.specs.Scans.{earns, tried, First}
+use Rattle.table.specs.Tables.{Sound, rowOf, tableBytes, lineFact, rowFact}
+use Rattle.rules.specs.Graph.{_∈_}
 use Rattle.rules.specs.Rules.{Rule}
 use Rattle.rules.specs.Derivations.{Justified}
 use Rattle.derivation.specs.Bytes.{lineAt}
-use Rattle.acceptance.specs.Check.{linesOf}
-use Rattle.question.specs.Question.{needed}
+use Rattle.acceptance.specs.Check.{linesOf, DerivationOf}
+use Rattle.question.specs.Question.{needed, Question}
+
+-- ---- sound input
 
 -- b is the bytes of well-formed, strictly ascending facts, at most 1,024 of them
 pub record SoundTable (b : List ℕ) (facts : List Fact) : Type 0 where
   pub bytes : b ≡ tableBytes facts
   pub sound : Sound facts
 
+-- row is the numbers of such facts
+pub record SoundRow (row : List ℕ) (facts : List Fact) : Type 0 where
+  pub numbers : row ≡ rowOf facts
+  pub sound : Sound facts
+
+-- a sound table with these facts, fact, limit (document 01's allowance) and m bytes of output (its paper)
+pub record SoundQuestion (q : Question) (facts : List Fact) (m : ℕ) : Type 0 where
+  pub table : SoundTable (q .table) facts
+  pub fact : T (wellFormed (q .fact))
+  pub limited : q .limit ≤ 1024
+  pub room : needed (q .limit) ≤ m
+
+-- a sound table with these facts, and fact, and x a derivation of it with n table lines
+pub record SoundCheck (b : List ℕ) (facts : List Fact) (t : Fact) (x : List ℕ) (n : ℕ) : Type 0 where
+  pub table : SoundTable b facts
+  pub fact : T (wellFormed t)
+  pub derivation : DerivationOf facts t x n
+
+-- ---- a table, and a row to write
+
+-- so many bytes or numbers are n lines of k, at most 1,024
+pub record Whole (k size n : ℕ) : Type 0 where
+  pub exact : size ≡ k * n
+  pub few : n ≤ 1024
+
+-- 1 with place 0; or the first line that earns any of 2 to 6, by the first of these, in that order, that it earns; lines are counted from
+-- 1, and `earned i` is what line i + 1 earns
+pub data LinesRefused (k size : ℕ) (earned : ℕ → Refusal → Bool) : Refusal → ℕ → Type 0 where
+  by-size : ((n : ℕ) → Whole k size n → ⊥) → LinesRefused k size earned Size 0
+  by-line : {n i : ℕ} {r : Refusal} → Whole k size n → i < n → ((j : ℕ) → j < i → (q : Refusal) → q ∈ tried → earned j q ≡ false)
+      → First (earned i) tried r → LinesRefused k size earned r (suc i)
+
+-- a table: lines of 16 bytes
+abbrev pub TableRefused : List ℕ → Refusal → ℕ → Type 0
+TableRefused b = LinesRefused 16 (length b) (λ i. earns (laidOut 3 b (16 * i)) (lineFact b) i)
+
+-- a row to write: facts of 3 numbers, which have no layout to be tried for 2
+abbrev pub RowRefused : List ℕ → Refusal → ℕ → Type 0
+RowRefused row = LinesRefused 3 (length row) (earns true (rowFact row))
+
+-- ---- reading and writing
+
+-- reading: the table's refusal, then 8 where k numbers or records a fact do not fit into m
+pub data ReadRefused (k : ℕ) (b : List ℕ) (m : ℕ) : Refusal → ℕ → Type 0 where
+  by-table : {r : Refusal} {place : ℕ} → TableRefused b r place → ReadRefused k b m r place
+  by-room : {facts : List Fact} → SoundTable b facts → m < k * length facts → ReadRefused k b m Short 0
+
+-- writing: the row's refusal, then 8 where 16 bytes a fact do not fit into m
+pub data WriteRefused (row : List ℕ) (m : ℕ) : Refusal → ℕ → Type 0 where
+  by-row : {r : Refusal} {place : ℕ} → RowRefused row r place → WriteRefused row m r place
+  by-room : {facts : List Fact} → SoundRow row facts → m < 16 * length facts → WriteRefused row m Short 0
+
+-- ---- question and check
+
 -- the triple earns the first of 3, 4, 5
 abbrev pub FactRefused : Fact → Refusal → Type 0
 FactRefused t r = faultOf t ≡ Faulty r
 
--- reading or writing: the table's own refusal, then 8 where the content does not fit the lent memory
-pub data MemoryRefused (content : List Fact → List ℕ) (t : Table) (m : ℕ) : Refusal → ℕ → Type 0 where
-  by-table : {r : Refusal} {place : ℕ} → t ≡ refused r place → MemoryRefused content t m r place
-  by-room : {facts : List Fact} → t ≡ accepted facts → m < length (content facts) → MemoryRefused content t m Short 0
-
--- a question: the table's, the triple's, 7 for the limit (document 01's allowance), 8 for m bytes of output (its paper)
-pub data QuestionRefused (b : List ℕ) (t : Fact) (limit m : ℕ) : Refusal → ℕ → Type 0 where
-  by-table : {r : Refusal} {place : ℕ} → tableOf b ≡ refused r place → QuestionRefused b t limit m r place
-  by-fact : {facts : List Fact} {r : Refusal} → SoundTable b facts → FactRefused t r → QuestionRefused b t limit m r 0
-  by-limit : {facts : List Fact} → SoundTable b facts → T (wellFormed t) → 1024 < limit → QuestionRefused b t limit m Allowance 0
-  by-room : {facts : List Fact} → SoundTable b facts → T (wellFormed t) → limit ≤ 1024 → m < needed limit → QuestionRefused b t limit m Short 0
+-- a question: the table's, the triple's, 7 for the limit, 8 for m bytes of output
+pub data QuestionRefused (q : Question) (m : ℕ) : Refusal → ℕ → Type 0 where
+  by-table : {r : Refusal} {place : ℕ} → TableRefused (q .table) r place → QuestionRefused q m r place
+  by-fact : {facts : List Fact} {r : Refusal} → SoundTable (q .table) facts → FactRefused (q .fact) r → QuestionRefused q m r 0
+  by-limit : {facts : List Fact} → SoundTable (q .table) facts → T (wellFormed (q .fact)) → 1024 < q .limit → QuestionRefused q m Allowance 0
+  by-room : {facts : List Fact} → SoundTable (q .table) facts → T (wellFormed (q .fact)) → q .limit ≤ 1024 → m < needed (q .limit) → QuestionRefused q m Short 0
 
 -- 1 to 2,047 whole lines
 pub record Lines (x : List ℕ) (n : ℕ) : Type 0 where
@@ -49,7 +103,7 @@ pub record Lines (x : List ℕ) (n : ℕ) : Type 0 where
 -- a check: the table's, the triple's, 9 for the size, 9 for the first line that is badly laid out, 10 for the first line that is not
 -- justified, 11 where the last line is not the triple
 pub data CheckRefused (b : List ℕ) (t : Fact) (x : List ℕ) : Refusal → ℕ → Type 0 where
-  by-table : {r : Refusal} {place : ℕ} → tableOf b ≡ refused r place → CheckRefused b t x r place
+  by-table : {r : Refusal} {place : ℕ} → TableRefused b r place → CheckRefused b t x r place
   by-fact : {facts : List Fact} {r : Refusal} → SoundTable b facts → FactRefused t r → CheckRefused b t x r 0
   by-size : {facts : List Fact} → SoundTable b facts → T (wellFormed t) → ((n : ℕ) → Lines x n → ⊥) → CheckRefused b t x Form 0
   by-form : {facts : List Fact} {n i : ℕ} → SoundTable b facts → T (wellFormed t) → Lines x n → i < n

@@ -1,24 +1,44 @@
--- What the four calls return, taken apart, is the number, place and count of the definition's answer.
+-- What the four calls return, taken apart, is the number, place and count of the definition's answer; so what that answer means holds of
+-- them.
 -- Assumes nothing.
-use mathlib.Core.Path.{_≡_}
+use mathlib.Core.Path.{_≡_, refl}
 use mathlib.Core.List.{List}
 use Prim.Native.Nat.{ℕ}
+use lib.ListN.{length}
 use Rattle.facts.specs.declared.Fact.{Fact}
 use Rattle.facts.specs.Answers.{codeOf}
 use Rattle.table.specs.Tables.{rowOf, tableBytes, tableOf, tableOfRow, settled}
-use Rattle.acceptance.specs.Check.{checkAnswer}
-use Rattle.question.specs.Question.{questionAnswer}
-use Rattle.entail.specs.Packed.{packed, unpacked}
+use Rattle.acceptance.specs.Check.{checkAnswer, Judges}
+use Rattle.acceptance.proofs.Accepts.{check-judges}
+use Rattle.question.specs.Question.{Question, questionAnswer, Means}
+use Rattle.question.proofs.Answered.{answers-mean}
+use Rattle.entail.specs.Packed.{unpacked}
+use Rattle.entail.specs.Calls.{QuestionCall, CheckCall, ReadCall, WriteCall}
 use Rattle.entail.proofs.Small.{unpack-pack, read-small, write-small, check-small, question-small}
 
-pub question-unpacked : (b : List ℕ) (t : Fact) (limit m r : ℕ) → r ≡ packed (codeOf (questionAnswer b t limit m)) → unpacked r ≡ codeOf (questionAnswer b t limit m)
-question-unpacked b t limit m r e = rw e (unpack-pack (codeOf (questionAnswer b t limit m)) (question-small b t limit m))
+pub question-unpacked : {q : Question} {entry exit : List ℕ} {r : ℕ} → QuestionCall q entry exit r → unpacked r ≡ codeOf (questionAnswer (q .table) (q .fact) (q .limit) (length entry))
+question-unpacked g = rw (g .answer) (unpack-pack _ (question-small _ _ _ _))
 
-pub check-unpacked : (b : List ℕ) (t : Fact) (x : List ℕ) (r : ℕ) → r ≡ packed (codeOf (checkAnswer b t x)) → unpacked r ≡ codeOf (checkAnswer b t x)
-check-unpacked b t x r e = rw e (unpack-pack (codeOf (checkAnswer b t x)) (check-small b t x))
+pub check-unpacked : {b : List ℕ} {t : Fact} {x : List ℕ} {r : ℕ} → CheckCall b t x r → unpacked r ≡ codeOf (checkAnswer b t x)
+check-unpacked g = rw (g .answer) (unpack-pack _ (check-small _ _ _))
 
-pub read-unpacked : (b : List ℕ) (m r : ℕ) → r ≡ packed (codeOf (settled rowOf (tableOf b) m)) → unpacked r ≡ codeOf (settled rowOf (tableOf b) m)
-read-unpacked b m r e = rw e (unpack-pack (codeOf (settled rowOf (tableOf b) m)) (read-small b m))
+pub read-unpacked : {b entry exit : List ℕ} {r : ℕ} → ReadCall b entry exit r → unpacked r ≡ codeOf (settled rowOf (tableOf b) (length entry))
+read-unpacked g = rw (g .answer) (unpack-pack _ (read-small _ _))
 
-pub write-unpacked : (row : List ℕ) (m r : ℕ) → r ≡ packed (codeOf (settled tableBytes (tableOfRow row) m)) → unpacked r ≡ codeOf (settled tableBytes (tableOfRow row) m)
-write-unpacked row m r e = rw e (unpack-pack (codeOf (settled tableBytes (tableOfRow row) m)) (write-small row m))
+pub write-unpacked : {row entry exit : List ℕ} {r : ℕ} → WriteCall row entry exit r → unpacked r ≡ codeOf (settled tableBytes (tableOfRow row) (length entry))
+write-unpacked g = rw (g .answer) (unpack-pack _ (write-small _ _))
+
+-- what a question's result means
+pub call-means : {q : Question} {entry exit : List ℕ} {r : ℕ} → QuestionCall q entry exit r → Means q entry exit (unpacked r)
+call-means {q} {entry} {exit} g = rw (question-unpacked g) (answers-mean q entry exit _ (record { answer = refl; output = g .output }))
+
+-- what a check's result means
+pub call-judges : {b : List ℕ} {t : Fact} {x : List ℕ} {r : ℕ} → CheckCall b t x r → Judges b t x (unpacked r)
+call-judges {b} {t} {x} g = rw (check-unpacked g) (check-judges b t x)
+
+-- a call, with what it means
+pub question-said : {q : Question} {entry exit : List ℕ} {r : ℕ} → QuestionCall q entry exit r → QuestionCall q entry exit r × Means q entry exit (unpacked r)
+question-said g = (g, call-means g)
+
+pub check-said : {b : List ℕ} {t : Fact} {x : List ℕ} {r : ℕ} → CheckCall b t x r → CheckCall b t x r × Judges b t x (unpacked r)
+check-said g = (g, call-judges g)

@@ -3,13 +3,12 @@
 use facts::Answer;
 use facts::Fact;
 ghost use mathlib.Core.Path.{_≡_};
-ghost use lib.ListN.{length};
 ghost use Rattle.facts.specs.Facts.{fact};
 ghost use Rattle.facts.specs.Answers.{codeOf};
-ghost use Rattle.table.specs.Tables.{rowOf, tableBytes, tableOf, tableOfRow, settled, filled};
-ghost use Rattle.acceptance.specs.Check.{checkAnswer};
-ghost use Rattle.question.specs.Question.{questionAnswer, outputAfter};
-ghost use Rattle.entail.specs.Packed.{packed, Small};
+ghost use Rattle.acceptance.specs.Check.{Judges};
+ghost use Rattle.question.specs.Question.{question, Means};
+ghost use Rattle.entail.specs.Packed.{packed, unpacked, Small};
+ghost use Rattle.entail.specs.Calls.{QuestionCall, CheckCall, ReadCall, WriteCall};
 
 // The bits of a place (document 01's: a line's number, or 0) and of a count begin here.
 const PLACE: u64 = 256;
@@ -46,8 +45,8 @@ pub extern "C" fn factbox_question(
     limit: u32,
     output: &mut [u8],
 ) -> u64
-    ensures answer { λ r. ⌜ r ≡ packed (codeOf (questionAnswer (now (table .entry)) (fact subject predicate object) limit (length (now (output .entry))))) ⌝ }
-    ensures output { λ _. ⌜ now (output .exit) ≡ outputAfter (now (table .entry)) (fact subject predicate object) limit (now (output .entry)) ⌝ }
+    ensures call { λ r. ⌜ QuestionCall (question (now (table .entry)) (fact subject predicate object) limit) (now (output .entry)) (now (output .exit)) r ⌝ }
+    ensures meaning { λ r. ⌜ Means (question (now (table .entry)) (fact subject predicate object) limit) (now (output .entry)) (now (output .exit)) (unpacked r) ⌝ }
 {
     pack(search::question(table, fact_of(subject, predicate, object), limit, output))
 }
@@ -61,7 +60,8 @@ pub extern "C" fn factbox_check(
     object: u32,
     derivation: &[u8],
 ) -> u64
-    ensures { λ r. ⌜ r ≡ packed (codeOf (checkAnswer (now (table .entry)) (fact subject predicate object) (now (derivation .entry)))) ⌝ }
+    ensures call { λ r. ⌜ CheckCall (now (table .entry)) (fact subject predicate object) (now (derivation .entry)) r ⌝ }
+    ensures meaning { λ r. ⌜ Judges (now (table .entry)) (fact subject predicate object) (now (derivation .entry)) (unpacked r) ⌝ }
 {
     pack(checker::check(table, fact_of(subject, predicate, object), derivation))
 }
@@ -69,8 +69,7 @@ pub extern "C" fn factbox_check(
 // Reads a table into a row of three numbers a fact.
 #[no_mangle]
 pub extern "C" fn factbox_read(table: &[u8], row: &mut [u32]) -> u64
-    ensures answer { λ r. ⌜ r ≡ packed (codeOf (settled rowOf (tableOf (now (table .entry))) (length (now (row .entry))))) ⌝ }
-    ensures row { λ _. ⌜ now (row .exit) ≡ filled rowOf (tableOf (now (table .entry))) (now (row .entry)) ⌝ }
+    ensures call { λ r. ⌜ ReadCall (now (table .entry)) (now (row .entry)) (now (row .exit)) r ⌝ }
 {
     pack(reader::read(table, row))
 }
@@ -78,8 +77,7 @@ pub extern "C" fn factbox_read(table: &[u8], row: &mut [u32]) -> u64
 // Writes the table of a row's facts.
 #[no_mangle]
 pub extern "C" fn factbox_write(row: &[u32], output: &mut [u8]) -> u64
-    ensures answer { λ r. ⌜ r ≡ packed (codeOf (settled tableBytes (tableOfRow (now (row .entry))) (length (now (output .entry))))) ⌝ }
-    ensures bytes { λ _. ⌜ now (output .exit) ≡ filled tableBytes (tableOfRow (now (row .entry))) (now (output .entry)) ⌝ }
+    ensures call { λ r. ⌜ WriteCall (now (row .entry)) (now (output .entry)) (now (output .exit)) r ⌝ }
 {
     pack(writer::write(row, output))
 }

@@ -1,5 +1,7 @@
 -- Document 01's number, place and count for each answer.
 -- Assumes nothing.
+use mathlib.Core.Path.{_≡_}
+use mathlib.Core.Logic.{_⊎_}
 use Prim.Native.Nat.{ℕ}
 use Rattle.facts.specs.declared.Refusal.{Refusal}
 use Rattle.facts.specs.declared.Refusal.the-variants.{Size, Column, Term, Blank, Part, Order, Allowance, Short, Form, Step, End}
@@ -31,3 +33,33 @@ codeOf No = numbered 91 0 0
 codeOf (Long n) = numbered 92 0 n
 codeOf (Accepted n) = numbered 93 0 n
 codeOf (Refused r p) = numbered (numberOf r) p 0
+
+-- ---- what three numbers say
+
+-- yes, with the count f
+abbrev pub YesWith : Code → ℕ → Type 0
+YesWith c f = c ≡ numbered 90 0 f
+
+-- "long", with the count f
+abbrev pub LongWith : Code → ℕ → Type 0
+LongWith c f = c ≡ numbered 92 0 f
+
+-- yes or "long", with the count f
+abbrev pub Follows : Code → ℕ → Type 0
+Follows c f = YesWith c f ⊎ LongWith c f
+
+-- no
+abbrev pub SaysNo : Code → Type 0
+SaysNo c = c ≡ numbered 91 0 0
+
+-- a derivation is accepted, with so many table lines
+abbrev pub AcceptedWith : Code → ℕ → Type 0
+AcceptedWith c n = c ≡ numbered 93 0 n
+
+-- reading or writing is done, with so many facts
+abbrev pub DoneWith : Code → ℕ → Type 0
+DoneWith c n = c ≡ numbered 0 0 n
+
+-- a refusal with its number, at a place, count 0
+abbrev pub RefusedWith : Code → Refusal → ℕ → Type 0
+RefusedWith c r place = c ≡ numbered (numberOf r) place 0

@@ -1,6 +1,6 @@
 // The parts of the program's input (document 01, "Panel and program"): a table, a zero line, questions.
 use batch::Input;
-use batch::Question;
+use batch::Query;
 use facts::Fact;
 use table::FIELDS;
 use table::LINE_BYTES;
@@ -99,7 +99,7 @@ pub fn layout(input: &[u8]) -> Input
 }
 
 // The question at a place, by what its fields say.
-pub fn question_at(input: &[u8], at: usize) -> Question
+pub fn question_at(input: &[u8], at: usize) -> Query
     requires { ⌜ at + 21 ≤ length (now input) ⌝ }
     ensures { λ r. ⌜ r ≡ questionAt (now (input .entry)) at ⌝ }
 {
@@ -112,7 +112,7 @@ pub fn question_at(input: &[u8], at: usize) -> Question
         predicate: predicate,
         object: object,
     };
-    Question {
+    Query {
         fact: f,
         limit: limit,
     }

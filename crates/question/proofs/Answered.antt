@@ -1,14 +1,14 @@
 -- Laws of the question: what its answer means, and that what is printed is a derivation of exactly the fewest table lines.
 -- Assumes nothing.
 use mathlib.Core.Path.{_≡_, refl, sym, ap, _∙_, subst}
-use mathlib.Core.Logic.{⊎-elim}
+use mathlib.Core.Logic.{inl, ⊎-elim}
 use mathlib.Core.Option.{Option, none, some, Option·map}
 use mathlib.Core.List.{List, _++_, map}
-use Prim.Native.Nat.{ℕ, suc, _+_, _*_, _≤_, _<_}
+use Prim.Native.Nat.{ℕ, suc, _*_, _≤_, _<_}
 use native.Mathlib.Omega.{arith}
 use lib.ListN.{length, getD, drop}
 use lib.Dec.{T, leb}
-use borrow.Author.Tests.{le-leb, lt-leb, leb-true}
+use borrow.Author.Tests.{le-leb, lt-leb, leb-true, leb-false}
 use Rattle.facts.specs.declared.Fact.{Fact}
 use Rattle.facts.specs.declared.Refusal.{Refusal}
 use Rattle.facts.specs.declared.Refusal.the-variants.{Allowance, Short}
@@ -16,19 +16,20 @@ use Rattle.facts.specs.declared.Verdict.{Verdict}
 use Rattle.facts.specs.declared.Verdict.the-variants.{Sound, Faulty}
 use Rattle.facts.specs.declared.Answer.{Answer}
 use Rattle.facts.specs.declared.Answer.the-variants.{Yes, No, Long, Refused}
-use Rattle.facts.specs.Facts.{fact, wellFormed}
+use Rattle.facts.specs.Facts.{fact, wellFormed, faultOf}
+use Rattle.facts.specs.Answers.{codeOf, YesWith, LongWith, Follows, SaysNo}
 use Rattle.facts.proofs.Terms.{by-cases}
+use Rattle.facts.proofs.Facts.{fault-none}
+use Rattle.facts.proofs.Codes.{told-yes, told-long, told-no}
 use Rattle.columns.specs.Lines.{over}
 use Rattle.table.specs.Judged.{orElse}
-use Rattle.table.specs.Tables.{accepted, refused, tableOf, rowOf, rowFact, loaded}
+use Rattle.table.specs.Tables.{Table, accepted, refused, tableOf, rowOf, rowFact, loaded}
 use Rattle.table.proofs.Rows.{loaded-accepted}
 use Rattle.table.proofs.Tables.{tableOf-accepted, row-at, row-items}
 use Rattle.table.proofs.Lists.{formed-at, ascends-at}
 use Rattle.rules.specs.Graph.{_∈_}
 use Rattle.rules.specs.Rules.{Rule}
-use Rattle.rules.specs.declared.Line.{Line}
-use Rattle.rules.specs.Derivations.{Derives, Derivable, Closed, Holds, Least, tableLines}
-use Rattle.rules.specs.Order.{InOrder}
+use Rattle.rules.specs.Derivations.{Derivable, Closed, Holds, Least}
 use Rattle.rules.specs.Paths.{fewest}
 use Rattle.rules.specs.Printed.{printed, printOrder}
 use Rattle.rules.specs.Chosen.{chosen, factIn}
@@ -36,10 +37,9 @@ use Rattle.rules.proofs.Graph.{place}
 use Rattle.rules.proofs.Fewest.{fewest-least, fewest-none, least-within, derivable-entailed}
 use Rattle.rules.proofs.Chosen.{chosen-fewest, chosen-path, chosen-printable}
 use Rattle.rules.proofs.Printed.{path-count}
-use Rattle.derivation.specs.Bytes.{derivationBytes}
 use Rattle.derivation.proofs.Bytes.{derivation-length}
 use Rattle.question.specs.Row.{factsOf, Sorted}
-use Rattle.question.specs.Question.{questionFault, needed, asked, answerBy, answerOf, unless, answerFrom, questionAnswer, printedOf, printedFor, printedFrom, written, outputAfter, Answered}
+use Rattle.question.specs.Question.{questionFault, needed, asked, answerBy, answerOf, unless, answerFrom, questionAnswer, printedOf, printedFor, printedFrom, written, outputAfter, Question, question, Answers, Prints, Means}
 
 -- ---- the answer
 
@@ -52,13 +52,13 @@ answers-yes limit (some k) f e =
     (λ y. let a : Yes k ≡ Yes f = rw y at e in let b : k ≡ f = cc in (ap some b, omega (arith, leb-true k limit y)))
     (λ y. let a : Long k ≡ Yes f = rw y at e in let z : _≡_ {A = ℕ} 0 1 = cc in absurd (omega arith))
 
-answers-long : (limit : ℕ) (o : Option ℕ) (f : ℕ) → answerBy limit o ≡ Long f → o ≡ some f
+answers-long : (limit : ℕ) (o : Option ℕ) (f : ℕ) → answerBy limit o ≡ Long f → (o ≡ some f) × (limit < f)
 unfolding answerBy
 answers-long limit none f e = let z : _≡_ {A = ℕ} 0 1 = cc in absurd (omega arith)
 answers-long limit (some k) f e =
     by-cases (leb k limit)
     (λ y. let a : Yes k ≡ Long f = rw y at e in let z : _≡_ {A = ℕ} 0 1 = cc in absurd (omega arith))
-    (λ y. let a : Long k ≡ Long f = rw y at e in let b : k ≡ f = cc in ap some b)
+    (λ y. let a : Long k ≡ Long f = rw y at e in let b : k ≡ f = cc in (ap some b, omega (arith, leb-false k limit y)))
 
 answers-no : (limit : ℕ) (o : Option ℕ) → answerBy limit o ≡ No → o ≡ none
 unfolding answerBy
@@ -87,7 +87,7 @@ module _ (table : List ℕ) (t : Fact) (facts : List Fact) (is : tableOf table �
       answers-sound (asked t limit size) (answerOf facts t limit) (Yes f) (sym (answer-accepted limit size) ∙ e)
       (λ r p z. let u : _≡_ {A = ℕ} 0 1 = cc in absurd (omega arith)) (λ z. answers-yes limit (fewest facts t) f z)
 
-  pub long-fewest : (limit size f : ℕ) → questionAnswer table t limit size ≡ Long f → fewest facts t ≡ some f
+  pub long-fewest : (limit size f : ℕ) → questionAnswer table t limit size ≡ Long f → (fewest facts t ≡ some f) × (limit < f)
   unfolding answerOf
   long-fewest limit size f e =
       answers-sound (asked t limit size) (answerOf facts t limit) (Long f) (sym (answer-accepted limit size) ∙ e)
@@ -127,19 +127,11 @@ module _ (table : List ℕ) (t : Fact) (facts : List Fact) (is : tableOf table �
   -- ---- what is printed
 
   -- what is printed is a derivation of t in the printed order, with f table lines and 2 f - 1 lines
-  pub record Prints (f : ℕ) : Type 0 where
-    pub derivation : List Line
-    pub bytes : printedFor facts t ≡ derivationBytes derivation
-    pub derives : Derives Rule facts derivation t
-    pub order : InOrder derivation
-    pub count : tableLines derivation ≡ f
-    pub lines : suc (length derivation) ≡ f + f
-
-  pub fewest-prints : (f : ℕ) → fewest facts t ≡ some f → Prints f
+  pub fewest-prints : (f : ℕ) → fewest facts t ≡ some f → Prints facts t f (printedFor facts t)
   unfolding printedFor printedOf
   fewest-prints f e = go (chosen facts t) refl
     where
-      go : (o : Option (List ℕ)) → chosen facts t ≡ o → Prints f
+      go : (o : Option (List ℕ)) → chosen facts t ≡ o → Prints facts t f (printedFor facts t)
       go none z =
           let u : none ≡ some f = sym (ap (Option·map length) z) ∙ chosen-fewest facts t ∙ e in
           let y : _≡_ {A = ℕ} 0 1 = cc in absurd (omega arith)
@@ -167,32 +159,63 @@ module _ (table : List ℕ) (t : Fact) (facts : List Fact) (is : tableOf table �
 
 -- ---- the contract
 
--- the answer and the output that are defined are what the contract says
-pub answered : (table : List ℕ) (t : Fact) (limit : ℕ) (entry exit : List ℕ) (r : Answer) → r ≡ questionAnswer table t limit (length entry) → exit ≡ outputAfter table t limit entry
-    → Answered table t limit entry exit r
-answered table t limit entry exit r a o = record {
-  answer = a;
-  output = o;
-  least = λ facts is f e. ⊎-elim (λ (y : r ≡ Yes f). fewest-meant table t facts is f (yes-fewest table t facts is limit (length entry) f (sym a ∙ y) .0))
-      (λ (y : r ≡ Long f). fewest-meant table t facts is f (long-fewest table t facts is limit (length entry) f (sym a ∙ y))) e;
-  none = λ facts is e. none-meant table t facts is (no-fewest table t facts is limit (length entry) (sym a ∙ e));
+-- what the answers mean of which the numbers are given
+module _ (q : Question) (entry exit : List ℕ) (a : Answer) (g : Answers q entry exit a) (facts : List Fact) (is : tableOf (q .table) ≡ accepted facts) where
+  given : (b : Answer) → a ≡ b → questionAnswer (q .table) (q .fact) (q .limit) (length entry) ≡ b
+  given b e = sym (g .answer) ∙ e
+
+  given-fewest : (f : ℕ) → Follows (codeOf a) f → fewest facts (q .fact) ≡ some f
+  given-fewest f =
+      ⊎-elim (λ (y : YesWith (codeOf a) f). yes-fewest (q .table) (q .fact) facts is (q .limit) (length entry) f (given (Yes f) (told-yes y)) .0)
+      (λ (y : LongWith (codeOf a) f). long-fewest (q .table) (q .fact) facts is (q .limit) (length entry) f (given (Long f) (told-long y)) .0)
+
+  given-printed : (f : ℕ) → YesWith (codeOf a) f → (x : List ℕ) × (exit ≡ over x entry) × Prints facts (q .fact) f x
+  unfolding outputAfter written printedFrom
+  given-printed f e =
+      let z = given-fewest f (inl e) in
+      (printedFor facts (q .fact), g .output ∙ rw (given (Yes f) (told-yes e), is), fewest-prints (q .table) (q .fact) facts is f z)
+
+  given-longer : (f : ℕ) → LongWith (codeOf a) f → (q .limit < f) × (exit ≡ entry)
+  unfolding outputAfter written
+  given-longer f e = (long-fewest (q .table) (q .fact) facts is (q .limit) (length entry) f (given (Long f) (told-long e)) .1, g .output ∙ rw (given (Long f) (told-long e)))
+
+  given-none : SaysNo (codeOf a) → Closed Rule (Derivable Rule facts) × Holds (Derivable Rule facts) facts × (Derivable Rule facts (q .fact) → ⊥) × (exit ≡ entry)
+  unfolding outputAfter written
+  given-none e =
+      let m = none-meant (q .table) (q .fact) facts is (no-fewest (q .table) (q .fact) facts is (q .limit) (length entry) (given No (told-no e))) in
+      (m .0, m .1, m .2, g .output ∙ rw (given No (told-no e)))
+
+-- the equations of a call say what its answer means
+pub answers-mean : (q : Question) (entry exit : List ℕ) (a : Answer) → Answers q entry exit a → Means q entry exit (codeOf a)
+answers-mean q entry exit a g facts is = record {
+  least = λ f h. fewest-meant (q .table) (q .fact) facts is f (given-fewest q entry exit a g facts is f h);
+  printed = given-printed q entry exit a g facts is;
+  longer = given-longer q entry exit a g facts is;
+  none = given-none q entry exit a g facts is;
 }
+
+-- the call, with what it means
+abbrev pub Said : Question → List ℕ → List ℕ → Answer → Type 0
+Said q entry exit a = Answers q entry exit a × Means q entry exit (codeOf a)
+
+said : (q : Question) (entry exit : List ℕ) (a : Answer) → Answers q entry exit a → Said q entry exit a
+said q entry exit a g = (g, answers-mean q entry exit a g)
 
 -- a refused table, a refused question, and an answer from the facts
 module _ (table : List ℕ) (t : Fact) (limit : ℕ) (entry : List ℕ) where
-  pub answered-table : (r : Refusal) (p : ℕ) → tableOf table ≡ refused r p → Answered table t limit entry entry (Refused r p)
+  pub answered-table : (r : Refusal) (p : ℕ) → tableOf table ≡ refused r p → Said (question table t limit) entry entry (Refused r p)
   unfolding questionAnswer answerFrom outputAfter written
-  answered-table r p e = answered table t limit entry entry (Refused r p) (rw e) (rw e)
+  answered-table r p e = said (question table t limit) entry entry (Refused r p) (record { answer = rw e; output = rw e })
 
   module _ (facts : List Fact) (is : tableOf table ≡ accepted facts) where
-    pub answered-refused : (r : Refusal) → asked t limit (length entry) ≡ Faulty r → Answered table t limit entry entry (Refused r 0)
+    pub answered-refused : (r : Refusal) → asked t limit (length entry) ≡ Faulty r → Said (question table t limit) entry entry (Refused r 0)
     unfolding questionAnswer answerFrom outputAfter written unless
-    answered-refused r e = answered table t limit entry entry (Refused r 0) (rw (is, e)) (rw (is, e))
+    answered-refused r e = said (question table t limit) entry entry (Refused r 0) (record { answer = rw (is, e); output = rw (is, e) })
 
     pub answered-settled : (exit : List ℕ) (r : Answer) → asked t limit (length entry) ≡ Sound → r ≡ answerOf facts t limit → exit ≡ written r (printedFor facts t) entry
-        → Answered table t limit entry exit r
+        → Said (question table t limit) entry exit r
     unfolding questionAnswer answerFrom outputAfter unless printedFrom
-    answered-settled exit r e a o = answered table t limit entry exit r (rw (is, e) a) (o ∙ rw (is, e, a))
+    answered-settled exit r e a o = said (question table t limit) entry exit r (record { answer = rw (is, e) a; output = o ∙ rw (is, e, a) })
 
 -- what a sound question says of its limit and its output
 pub asked-sound : (t : Fact) (limit size : ℕ) → asked t limit size ≡ Sound → (limit ≤ 1024) × (needed limit ≤ size)
@@ -206,6 +229,33 @@ asked-sound t limit size e = go (questionFault t) refl
         (λ a. by-cases (leb (needed limit) size) (λ b. (leb-true limit 1024 a, leb-true (needed limit) size b))
         (λ b. let z : Faulty Short ≡ Sound = rw (q, a, b) at e in let u : _≡_ {A = ℕ} 0 1 = cc in absurd (omega arith)))
         (λ a. let z : Faulty Allowance ≡ Sound = rw (q, a) at e in let u : _≡_ {A = ℕ} 0 1 = cc in absurd (omega arith))
+
+-- a yes comes of an accepted table, a well-formed fact, a limit of at most 1,024, and the output that it asks for
+pub asked-formed : (t : Fact) (limit size : ℕ) → asked t limit size ≡ Sound → T (wellFormed t)
+unfolding asked orElse questionFault
+asked-formed t limit size e = go (faultOf t) refl
+  where
+    go : (v : Verdict) → faultOf t ≡ v → T (wellFormed t)
+    go Sound z = fault-none t .0 z
+    go (Faulty r) z = let u : Faulty r ≡ Sound = rw z at e in let k : _≡_ {A = ℕ} 0 1 = cc in absurd (omega arith)
+
+unless-yes : (v : Verdict) (a : Answer) (f : ℕ) → unless v a ≡ Yes f → v ≡ Sound
+unfolding unless
+unless-yes Sound a f e = refl
+unless-yes (Faulty r) a f e = let z : _≡_ {A = ℕ} 0 1 = cc in absurd (omega arith)
+
+pub yes-input : (table : List ℕ) (t : Fact) (limit size f : ℕ) → questionAnswer table t limit size ≡ Yes f
+    → (facts : List Fact) × (tableOf table ≡ accepted facts) × T (wellFormed t) × (limit ≤ 1024) × (needed limit ≤ size)
+unfolding questionAnswer
+yes-input table t limit size f e = go (tableOf table) refl e
+  where
+    go : (u : Table) → tableOf table ≡ u → answerFrom u t limit size ≡ Yes f
+        → (facts : List Fact) × (tableOf table ≡ accepted facts) × T (wellFormed t) × (limit ≤ 1024) × (needed limit ≤ size)
+    go (refused r place) z y = unfold answerFrom in (let k : _≡_ {A = ℕ} 0 1 = cc in absurd (omega arith))
+    go (accepted facts) z y =
+        let s = unless-yes (asked t limit size) (answerOf facts t limit) f (unfold answerFrom in y) in
+        let l = asked-sound t limit size s in
+        (facts, z, asked-formed t limit size s, l .0, l .1)
 
 -- the row that an accepted table leaves: its facts, ascending
 module _ (table : List ℕ) (facts : List Fact) (is : tableOf table ≡ accepted facts) (row old : List ℕ) (put : row ≡ over (rowOf (loaded table)) old) where

@@ -2,11 +2,10 @@
 -- limit is document 01's allowance, the output its paper.
 -- Assumes nothing.
 use mathlib.Core.Path.{_≡_}
-use mathlib.Core.Logic.{_⊎_}
 use mathlib.Core.Bool.{cond}
 use mathlib.Core.Option.{Option, none, some}
 use mathlib.Core.List.{List, [], map}
-use Prim.Native.Nat.{ℕ, _-_, _*_, _≤_}
+use Prim.Native.Nat.{ℕ, suc, _+_, _-_, _*_, _≤_, _<_}
 use lib.ListN.{length}
 use lib.Dec.{leb}
 use Rattle.columns.specs.Lines.{over}
@@ -16,11 +15,15 @@ use Rattle.facts.specs.declared.Verdict.{Verdict}
 use Rattle.facts.specs.declared.Verdict.the-variants.{Sound, Faulty}
 use Rattle.facts.specs.declared.Answer.{Answer}
 use Rattle.facts.specs.declared.Answer.the-variants.{Done, Yes, No, Long, Accepted, Refused}
+use Rattle.facts.specs.declared.Code.{Code}
 use Rattle.facts.specs.Facts.{faultOf}
+use Rattle.facts.specs.Answers.{Follows, YesWith, LongWith, SaysNo}
 use Rattle.table.specs.Judged.{orElse}
 use Rattle.table.specs.Tables.{Table, accepted, refused, tableOf}
+use Rattle.rules.specs.declared.Line.{Line}
 use Rattle.rules.specs.Rules.{Rule}
-use Rattle.rules.specs.Derivations.{Derivable, Closed, Holds, Least}
+use Rattle.rules.specs.Derivations.{Derives, Derivable, Closed, Holds, Least, tableLines}
+use Rattle.rules.specs.Order.{InOrder}
 use Rattle.rules.specs.Paths.{fewest}
 use Rattle.rules.specs.Printed.{printed, printOrder}
 use Rattle.rules.specs.Chosen.{chosen, factIn}
@@ -108,13 +111,41 @@ pub record Settling (row : List ℕ) (n limit size : ℕ) : Type 0 where
   pub limited : limit ≤ 1024
   pub room : needed limit ≤ size
 
--- ---- what a question answers, and what that means
+-- ---- the call, and what its answer means
 
-pub record Answered (table : List ℕ) (t : Fact) (limit : ℕ) (entry exit : List ℕ) (r : Answer) : Type 0 where
-  pub answer : r ≡ questionAnswer table t limit (length entry)
-  pub output : exit ≡ outputAfter table t limit entry
+-- a question: a table's bytes, the fact put, and its limit
+pub record Question : Type 0 where
+  pub table : List ℕ
+  pub fact : Fact
+  pub limit : ℕ
+
+abbrev pub question : List ℕ → Fact → ℕ → Question
+question table t limit = record { table = table; fact = t; limit = limit }
+
+-- the call, as equations: its answer, and the output afterwards
+pub record Answers (q : Question) (entry exit : List ℕ) (a : Answer) : Type 0 where
+  pub answer : a ≡ questionAnswer (q .table) (q .fact) (q .limit) (length entry)
+  pub output : exit ≡ outputAfter (q .table) (q .fact) (q .limit) entry
+
+-- x is a derivation of t from the facts as document 01 has it printed: f table lines, 2 f - 1 lines, in the printed order
+pub record Prints (facts : List Fact) (t : Fact) (f : ℕ) (x : List ℕ) : Type 0 where
+  pub derivation : List Line
+  pub bytes : x ≡ derivationBytes derivation
+  pub derives : Derives Rule facts derivation t
+  pub order : InOrder derivation
+  pub count : tableLines derivation ≡ f
+  pub lines : suc (length derivation) ≡ f + f
+
+-- what number, place and count then mean, over an accepted table with these facts
+pub record Meaning (q : Question) (entry exit : List ℕ) (c : Code) (facts : List Fact) : Type 0 where
   -- yes and long carry the fewest table lines of any derivation, and these are at most the table's facts
-  pub least : (facts : List Fact) → tableOf table ≡ accepted facts → (f : ℕ) → (r ≡ Yes f) ⊎ (r ≡ Long f) → Least Rule facts t f × (f ≤ length facts)
-  -- no: there is no derivation; the facts that have one are a closed set that holds the table and lacks t
-  pub none : (facts : List Fact) → tableOf table ≡ accepted facts → r ≡ No
-      → Closed Rule (Derivable Rule facts) × Holds (Derivable Rule facts) facts × (Derivable Rule facts t → ⊥)
+  pub least : (f : ℕ) → Follows c f → Least Rule facts (q .fact) f × (f ≤ length facts)
+  -- yes: such a derivation stands in the front of the output, and what was behind it still does
+  pub printed : (f : ℕ) → YesWith c f → (x : List ℕ) × (exit ≡ over x entry) × Prints facts (q .fact) f x
+  -- long: it does not fit the limit
+  pub longer : (f : ℕ) → LongWith c f → (q .limit < f) × (exit ≡ entry)
+  -- no: there is no derivation; the facts that have one are a closed set that holds the table and lacks the fact put
+  pub none : SaysNo c → Closed Rule (Derivable Rule facts) × Holds (Derivable Rule facts) facts × (Derivable Rule facts (q .fact) → ⊥) × (exit ≡ entry)
+
+abbrev pub Means : Question → List ℕ → List ℕ → Code → Type 0
+Means q entry exit c = (facts : List Fact) → tableOf (q .table) ≡ accepted facts → Meaning q entry exit c facts

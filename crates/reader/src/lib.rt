@@ -13,7 +13,7 @@ ghost use mathlib.Core.Path.{_≡_};
 ghost use Prim.Native.Nat.{_+_, _-_, _*_, _≤_, _<_};
 ghost use lib.ListN.{length, take};
 ghost use Rattle.columns.specs.Lines.{over};
-ghost use Rattle.table.specs.Tables.{rowOf, tableOf, settled, filled, scanOf, loaded};
+ghost use Rattle.table.specs.Tables.{rowOf, tableOf, Transfers, scanOf, loaded};
 
 // The bytes of a full table.
 const TABLE_BYTES: usize = 16384;
@@ -69,8 +69,7 @@ fn copy(row: &[u32], count: usize, out: &mut [u32])
 
 // Reads a table into a lent row of three numbers a fact.
 pub fn read(bytes: &[u8], row: &mut [u32]) -> Answer
-    ensures answer { λ r. ⌜ r ≡ settled rowOf (tableOf (now (bytes .entry))) (length (now (row .entry))) ⌝ }
-    ensures row { λ _. ⌜ now (row .exit) ≡ filled rowOf (tableOf (now (bytes .entry))) (now (row .entry)) ⌝ }
+    ensures call { λ r. ⌜ Transfers rowOf (tableOf (now (bytes .entry))) (now (row .entry)) (now (row .exit)) r ⌝ }
 {
     let mut facts = [0u32; ROW_NUMBERS];
     match load(bytes, &mut facts) {

@@ -1,5 +1,6 @@
 -- What reading a table into lent fact records answers, and what they hold then (document 01, "Table layout").
 -- Assumes nothing.
+use mathlib.Core.Path.{_≡_}
 use mathlib.Core.Bool.{cond}
 use mathlib.Core.List.{List, _++_}
 use Prim.Native.Nat.{ℕ}
@@ -9,7 +10,7 @@ use Rattle.facts.specs.declared.Fact.{Fact}
 use Rattle.facts.specs.declared.Refusal.the-variants.{Short}
 use Rattle.facts.specs.declared.Answer.{Answer}
 use Rattle.facts.specs.declared.Answer.the-variants.{Done, Refused}
-use Rattle.table.specs.Tables.{Table, accepted, refused}
+use Rattle.table.specs.Tables.{Table, accepted, refused, tableOf}
 
 -- records written over the front of a list of them
 abbrev pub overRecords : List Fact → List Fact → List Fact
@@ -24,3 +25,8 @@ settledRecords (refused r place) m = Refused r place
 unfoldable pub filledRecords : Table → List Fact → List Fact
 filledRecords (accepted facts) old = cond (leb (length facts) (length old)) (overRecords facts old) old
 filledRecords (refused r place) old = old
+
+-- reading into lent records, as equations: its answer, and the records afterwards
+pub record TransfersRecords (b : List ℕ) (entry exit : List Fact) (a : Answer) : Type 0 where
+  pub answer : a ≡ settledRecords (tableOf b) (length entry)
+  pub memory : exit ≡ filledRecords (tableOf b) entry

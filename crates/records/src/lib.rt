@@ -12,7 +12,7 @@ ghost use lib.ListN.{length};
 ghost use Rattle.columns.specs.Lines.{itemsFrom, over};
 ghost use Rattle.facts.specs.Answers.{codeOf};
 ghost use Rattle.table.specs.Tables.{rowOf, rowFact, tableOf, loaded};
-ghost use Rattle.records.specs.Records.{overRecords, settledRecords, filledRecords};
+ghost use Rattle.records.specs.Records.{overRecords, settledRecords, TransfersRecords};
 
 // Reads a table into a row of numbers, and answers where so many records are lent.
 fn read_row(bytes: &[u8], lent: usize, row: &mut [u32]) -> Answer
@@ -58,8 +58,7 @@ fn fill(row: &[u32], facts: &mut [Fact], n: usize)
 
 // Reads a table into a lent row of fact records.
 pub fn read_facts(bytes: &[u8], facts: &mut [Fact]) -> Answer
-    ensures answer { λ r. ⌜ r ≡ settledRecords (tableOf (now (bytes .entry))) (length (now (facts .entry))) ⌝ }
-    ensures records { λ _. ⌜ now (facts .exit) ≡ filledRecords (tableOf (now (bytes .entry))) (now (facts .entry)) ⌝ }
+    ensures call { λ r. ⌜ TransfersRecords (now (bytes .entry)) (now (facts .entry)) (now (facts .exit)) r ⌝ }
 {
     let mut row = [0u32; ROW_NUMBERS];
     let answer = read_row(bytes, facts.len(), &mut row);

@@ -1,5 +1,5 @@
 // The program's reply to a question (document 01, "Panel and program"), as bytes.
-use batch::Question;
+use batch::Query;
 use facts::Answer;
 use facts::Refusal;
 use input::QUESTION_BYTES;
@@ -7,10 +7,9 @@ use input::bytes_behind;
 use input::question_at;
 use table::LINE_BYTES;
 ghost use mathlib.Core.Path.{_≡_};
-ghost use mathlib.Core.List.{[], _∷_};
 ghost use Prim.Native.Nat.{_+_, _*_, _≤_};
 ghost use lib.ListN.{length};
-ghost use Rattle.columns.specs.Lines.{line, over};
+ghost use Rattle.columns.specs.Lines.{over};
 ghost use Rattle.batch.specs.Output.{codeLine, replySize, longest, replyTo, replyIn};
 
 // The bytes of the longest reply: a line of three fields, and a derivation of 2,047 lines of 31 bytes.
@@ -38,7 +37,7 @@ fn reply_bytes(a: Answer) -> usize
 
 // Writes the reply to a question about the table into the front of the output, and gives its length. The output behind the first
 // line is the question's paper.
-fn put_reply(table: &[u8], q: Question, out: &mut [u8]) -> usize
+fn put_reply(table: &[u8], q: Query, out: &mut [u8]) -> usize
     requires { ⌜ longest ≤ length (now out) ⌝ }
     ensures length { λ r. ⌜ r ≡ length (replyTo (now (table .entry)) q) ⌝ }
     ensures bytes { λ _. ⌜ now (out .exit) ≡ over (replyTo (now (table .entry)) q) (now (out .entry)) ⌝ }
@@ -66,7 +65,7 @@ pub fn reply(input: &[u8], size: usize, k: usize, out: &mut [u8]) -> usize
 
 // The one line that is printed for a torn input.
 pub fn refusal() -> [u8; 16]
-    ensures { λ r. ⌜ r ≡ line (9 ∷ 0 ∷ 0 ∷ []) ⌝ }
+    ensures { λ r. ⌜ r ≡ codeLine (Answer.Refused Refusal.Form 0) ⌝ }
 {
     let mut out = [0u8; LINE_BYTES];
     put_code(Answer::Refused(Refusal::Form, 0), &mut out);

@@ -22,7 +22,7 @@ use Rattle.facts.proofs.Terms.{by-cases}
 use Rattle.facts.proofs.Facts.{fact-eq, terms-within}
 use Rattle.table.specs.declared.Scan.{Scan}
 use Rattle.table.specs.declared.Scan.the-variants.{Passes, Stops}
-use Rattle.table.specs.Scans.{earns, tried, firstEarned, onward, scan}
+use Rattle.table.specs.Scans.{earns, tried, firstEarned, First, onward, scan}
 use Rattle.table.specs.Tables as tables
 use Rattle.table.specs.Tables.{terms, rowOf, tableBytes, lineFact, rowFact, accepted, refused, sized, meant, lineVerdict, tableScan, tableOf, rowVerdict, rowScan, tableOfRow, allFormed}
 use Rattle.table.proofs.Rows.{row-length, bytes-length, sized-fits, sized-says, loaded-all, loaded-accepted, passes-size, accepted-scan, accepted-size, row-scan, row-size, row-facts, row-part}
@@ -133,14 +133,6 @@ write-read row facts e = let s = row-says row facts e in (accepted-is facts (s .
 
 -- ---- refused tables
 
--- of the refusals in the order in which they are tried, r is the first that is earned
-pub record First (earned : Refusal → Bool) (order : List Refusal) (r : Refusal) : Type 0 where
-  pub before : List Refusal
-  pub behind : List Refusal
-  pub place : order ≡ before ++ (r ∷ behind)
-  pub not-before : (q : Refusal) → List·Memᴰ q before → earned q ≡ false
-  pub here : earned r ≡ true
-
 first-says : (e : Refusal → Bool) (rs : List Refusal) (r : Refusal) → firstEarned e rs ≡ Faulty r → First e rs r
 unfolding firstEarned
 first-says e [] r p = let z : _≡_ {A = ℕ} 0 1 = cc in absurd (omega arith)
@@ -162,10 +154,31 @@ unfolding firstEarned
 first-is e r [] behind n h = rw h
 first-is e r (q ∷ before) behind n h = rw (n q (List·Memᴰ·head refl)) (first-is e r before behind (λ x m. n x (List·Memᴰ·tail m)) h)
 
+-- nothing is found exactly where none of them is earned
+none-says : (e : Refusal → Bool) (rs : List Refusal) → firstEarned e rs ≡ Sound → (q : Refusal) → List·Memᴰ q rs → e q ≡ false
+unfolding firstEarned
+none-says e [] p q m = absurd (List·Memᴰ·not-nil m)
+none-says e (r ∷ rs) p q m =
+    by-cases (e r)
+    (λ t. let f : Faulty r ≡ Sound = rw t at p in let z : _≡_ {A = ℕ} 0 1 = cc in absurd (omega arith))
+    (λ t. ⊎-elim (λ (y : q ≡ r). rw y t) (λ y. none-says e rs (rw t at p) q y) (List·Memᴰ·cases-cons m))
+
+none-is : (e : Refusal → Bool) (rs : List Refusal) → ((q : Refusal) → List·Memᴰ q rs → e q ≡ false) → firstEarned e rs ≡ Sound
+unfolding firstEarned
+none-is e [] n = refl
+none-is e (r ∷ rs) n = rw (n r (List·Memᴰ·head refl)) (none-is e rs (λ q m. n q (List·Memᴰ·tail m)))
+
+pub first-none : (e : Refusal → Bool) (rs : List Refusal) → firstEarned e rs ≡ Sound ↔ ((q : Refusal) → List·Memᴰ q rs → e q ≡ false)
+first-none e rs = (none-says e rs, none-is e rs)
+
+-- one of them is found exactly where it is the first that is earned
+pub first-earned : (e : Refusal → Bool) (rs : List Refusal) (r : Refusal) → firstEarned e rs ≡ Faulty r ↔ First e rs r
+first-earned e rs r = (first-says e rs r, λ f. rw (f .place) (first-is e r (f .before) (f .behind) (f .not-before) (f .here)))
+
 -- a line is refused by the first of 2 to 6 that it earns, in that order
 pub line-refused : (b : List ℕ) (i : ℕ) (r : Refusal) → lineVerdict b i ≡ Faulty r ↔ First (earns (laidOut 3 b (16 * i)) (lineFact b) i) tried r
 unfolding lineVerdict
-line-refused b i r = (first-says _ tried r, λ f. rw (f .place) (first-is _ r (f .before) (f .behind) (f .not-before) (f .here)))
+line-refused b i r = first-earned _ tried r
 
 -- line i, counted from 0, of n is the first that a judgement refuses
 pub record Stopped (judge : ℕ → Verdict) (n : ℕ) (r : Refusal) (place : ℕ) : Type 0 where

@@ -1,8 +1,9 @@
 -- Which refusal a fact or a line earns, and the first line that earns one (document 01, the order of refusals: "lines
 -- downward, each tried for 2, 3, 4, 5, 6 in that order over its whole width").
 -- Assumes nothing.
-use mathlib.Core.Bool.{Bool, false, cond, not, _||_}
-use mathlib.Core.List.{List, [], _∷_}
+use mathlib.Core.Path.{_≡_}
+use mathlib.Core.Bool.{Bool, true, false, cond, not, _||_}
+use mathlib.Core.List.{List, [], _∷_, _++_, List·Memᴰ}
 use Prim.Native.Nat.{ℕ, zero, suc, _-_}
 use lib.Dec.{eqb}
 use Rattle.facts.specs.declared.Fact.{Fact}
@@ -40,6 +41,14 @@ tried = Column ∷ Term ∷ Blank ∷ Part ∷ Order ∷ []
 unfoldable pub firstEarned : (Refusal → Bool) → List Refusal → Verdict
 firstEarned e [] = Sound
 firstEarned e (r ∷ rs) = cond (e r) (Faulty r) (firstEarned e rs)
+
+-- the same, said of what it is: of the refusals in the order in which they are tried, r is the first that is earned
+pub record First (earned : Refusal → Bool) (order : List Refusal) (r : Refusal) : Type 0 where
+  pub before : List Refusal
+  pub behind : List Refusal
+  pub place : order ≡ before ++ (r ∷ behind)
+  pub not-before : (q : Refusal) → List·Memᴰ q before → earned q ≡ false
+  pub here : earned r ≡ true
 
 -- a verdict on the line i, counted from 0, before the scan of the lines behind it
 unfoldable pub onward : Verdict → ℕ → Scan → Scan

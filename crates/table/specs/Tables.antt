@@ -1,6 +1,7 @@
 -- The meaning of a table: its bytes, its row of numbers, and which of them are accepted (document 01, "Table layout" and the
 -- table of numbers).
 -- Assumes nothing.
+use mathlib.Core.Path.{_≡_}
 use mathlib.Core.Bool.{Bool, true, cond, _&&_}
 use mathlib.Core.List.{List, [], _∷_}
 use Prim.Native.Nat.{ℕ, zero, suc, _+_, _*_, _/_, _%_, _≤_}
@@ -113,6 +114,11 @@ settled content (refused r place) m = Refused r place
 unfoldable pub filled : (List Fact → List ℕ) → Table → List ℕ → List ℕ
 filled content (accepted facts) old = cond (leb (length (content facts)) (length old)) (over (content facts) old) old
 filled content (refused r place) old = old
+
+-- such a call, as equations: its answer, and the lent memory afterwards
+pub record Transfers (content : List Fact → List ℕ) (t : Table) (entry exit : List ℕ) (a : Answer) : Type 0 where
+  pub answer : a ≡ settled content t (length entry)
+  pub memory : exit ≡ filled content t entry
 
 -- the scan that a table's meaning gives
 unfoldable pub scanOf : Table → Scan

@@ -13,7 +13,7 @@ ghost use mathlib.Core.Path.{_≡_};
 ghost use Prim.Native.Nat.{_+_, _-_, _*_, _≤_, _<_};
 ghost use lib.ListN.{length};
 ghost use Rattle.columns.specs.Lines.{itemsFrom, over};
-ghost use Rattle.table.specs.Tables.{tableBytes, rowFact, tableOfRow, settled, filled, scanOf};
+ghost use Rattle.table.specs.Tables.{tableBytes, rowFact, tableOfRow, Transfers, scanOf};
 
 // Scans the facts of a row, up to the first that is refused.
 fn scan_row(row: &[u32]) -> Scan
@@ -66,8 +66,7 @@ fn put_lines(row: &[u32], n: usize, out: &mut [u8])
 
 // Writes the table of a row's facts into lent memory.
 pub fn write(row: &[u32], out: &mut [u8]) -> Answer
-    ensures answer { λ r. ⌜ r ≡ settled tableBytes (tableOfRow (now (row .entry))) (length (now (out .entry))) ⌝ }
-    ensures bytes { λ _. ⌜ now (out .exit) ≡ filled tableBytes (tableOfRow (now (row .entry))) (now (out .entry)) ⌝ }
+    ensures call { λ r. ⌜ Transfers tableBytes (tableOfRow (now (row .entry))) (now (out .entry)) (now (out .exit)) r ⌝ }
 {
     match scan_row(row) {
         Scan::Stops(r, place) => Answer::Refused(r, place),

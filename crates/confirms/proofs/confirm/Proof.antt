@@ -24,7 +24,7 @@ checked c =
     let s = c .before .before .before .before .before in
     let args = s .before .before .before .before .args in
     let q = s .question in
-    yes-checked (now (args .table)) (args .fact) (args .limit) (c .before .a .given .0 .0) (now (args .output)) (q .last .1 .1 .1 .0) (q .result) (q .ensures) (c .before .a .given .1)
+    yes-checked (now (args .table)) (args .fact) (args .limit) (c .before .a .given .0 .0) (now (args .output)) (q .last .1 .1 .1 .0) (q .result) (q .ensures .0) (c .before .a .given .1)
 
 -- any variant but the second, a yes
 alone : (a : Answer) → OneOf (0 ∷ 2 ∷ 3 ∷ 4 ∷ 5 ∷ []) (tagOf the-type a) → a ≡ confirmed a
@@ -46,7 +46,7 @@ same-length : tie.Need-same-length
 same-length c = search needs
 
 returns : tie.Need-returns
-returns c = let q = c .before .before .before .question in record { answered = q .ensures; verdict = alone (q .result) (c .match .keys2) }
+returns c = let q = c .before .before .before .question in record { answers = q .ensures .0; verdict = alone (q .result) (c .match .keys2) }
 
 needed-for-requires : tie.Need-needed-for-requires
 needed-for-requires c κs = search needs
@@ -67,8 +67,8 @@ returns-2 : tie.Need-returns-2
 unfolding confirmed
 returns-2 c =
     record {
-      answered = rw (← c .before .before .before .before .a .given .1) (c .before .before .before .before .before .before .before .before .question .ensures);
-      verdict = c .check .ensures ∙ rw (c .before .before .needed-for .ensures) (checked (c .before .before .before) .accepted);
+      answers = rw (← c .before .before .before .before .a .given .1) (c .before .before .before .before .before .before .before .before .question .ensures .0);
+      verdict = c .check .ensures .0 ∙ rw (c .before .before .needed-for .ensures) (checked (c .before .before .before) .accepted);
     }
 
 pub confirm-spec : {M : Type 1} → statement M

@@ -10,13 +10,13 @@ read-requires : tie.Need-read-requires
 read-requires c κs = search needs
 
 pack-requires : tie.Need-pack-requires
-pack-requires c κs = rw (c .before .before .read .ensures .0) (read-small _ _)
+pack-requires c κs = rw (c .before .before .read .ensures .answer) (read-small _ _)
 
 same-length : tie.Need-same-length
 same-length c = search needs
 
 returns : tie.Need-returns
-returns c = (c .pack .ensures ∙ rw (c .before .before .before .read .ensures .0), c .before .before .before .read .ensures .1)
+returns c = let t = c .before .before .before .read .ensures in record { answer = c .pack .ensures ∙ rw (t .answer); row = t .memory }
 
 pub factbox-read-spec : {M : Type 1} → statement M
 factbox-read-spec = tie.close (tie.spec read-requires pack-requires same-length returns)

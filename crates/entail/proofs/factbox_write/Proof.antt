@@ -10,13 +10,13 @@ write-requires : tie.Need-write-requires
 write-requires c κs = search needs
 
 pack-requires : tie.Need-pack-requires
-pack-requires c κs = rw (c .before .before .write .ensures .0) (write-small _ _)
+pack-requires c κs = rw (c .before .before .write .ensures .answer) (write-small _ _)
 
 same-length : tie.Need-same-length
 same-length c = search needs
 
 returns : tie.Need-returns
-returns c = (c .pack .ensures ∙ rw (c .before .before .before .write .ensures .0), c .before .before .before .write .ensures .1)
+returns c = let t = c .before .before .before .write .ensures in record { answer = c .pack .ensures ∙ rw (t .answer); bytes = t .memory }
 
 pub factbox-write-spec : {M : Type 1} → statement M
 factbox-write-spec = tie.close (tie.spec write-requires pack-requires same-length returns)

@@ -37,7 +37,7 @@ returns c =
     let p = scan-passes (tableOf b) (c .before .before .n .given .0 .0) (sym (c .before .before .before .before .before .load .ensures .0) ∙ c .before .before .n .given .1) in
     let row = now (c .before .before .before .before .before .before .before .before .before .args .row) in
     let e = settle-short rowOf (tableOf b) row (p .0) (p .1) (rw row-length (omega (arith, p .2))) in
-    (sym (e .0), sym (e .1))
+    record { answer = sym (e .0); memory = sym (e .1) }
 
 slice-aggregate-copy : tie.Need-slice-aggregate-copy
 slice-aggregate-copy c = search needs
@@ -53,7 +53,7 @@ returns-2 : tie.Need-returns-2
 returns-2 c =
     let b = now (c .before .before .before .before .before .before .before .before .args .bytes) in
     let e = settle-refused rowOf (tableOf b) (now (c .before .before .before .before .before .before .before .before .args .row)) _ _ (scan-stops (tableOf b) _ _ (sym (c .before .before .before .before .load .ensures .0) ∙ c .before .r .given .1)) in
-    (sym (e .0), sym (e .1))
+    record { answer = sym (e .0); memory = sym (e .1) }
 
 same-length : tie.Need-same-length
 same-length c = search needs
@@ -68,7 +68,7 @@ returns-3 c =
     let long : length (rowOf (p .0)) ≡ 3 * n = row-length (p .0) ∙ ap (λ k. 3 * k) (p .2) in
     let front : take (3 * n) facts ≡ rowOf (p .0) = rw (c .before .before .before .before .before .before .before .before .before .before .load .ensures .1, loaded-accepted b (p .0) (p .1)) (take-at (rowOf (p .0)) _ (3 * n) long) in
     let e = settle-done rowOf (tableOf b) row (p .0) (p .1) (omega arith) in
-    (ap Done (sym (p .2)) ∙ sym (e .0), c .before .before .copy .ensures ∙ rw front (sym (e .1)))
+    record { answer = ap Done (sym (p .2)) ∙ sym (e .0); memory = c .before .before .copy .ensures ∙ rw front (sym (e .1)) }
 
 pub read-spec : {M : Type 1} → statement M
 read-spec =

@@ -59,8 +59,7 @@ use Rattle.facts.proofs.Fact as T
 use Rattle.facts.proofs.Fact.Laws as T′
 use Rattle.facts.proofs.Answer as E
 use Rattle.facts.proofs.Answer.Laws as E′
-use Rattle.table.specs.Tables.{tableOf}
-use Rattle.records.specs.Records.{settledRecords, filledRecords}
+use Rattle.records.specs.Records.{TransfersRecords}
 use Rattle.records.proofs.read_facts as read-facts
 use Rattle.records.proofs.read_facts.Symbol as read-facts-def
 use Rattle.records.proofs.read_facts.Symbol.{name as #records·read-facts}
@@ -251,7 +250,7 @@ module _ {M : Type 1} (𝓤 : URA M) (H : Heap 𝓤) (A : Atoms 𝓤) (W : Given
         ⊛ raw (ensured 𝓤 H A read-facts.ended (read-facts.clauses 𝓤 H A mem run) (κ₁, (ν ∷ [], tt)) (x₁, (lent-at l₄ δ, tt)) tt r)))) (id⊢ 𝓤 _) $ await ! tt $ pick ! (λ r.
         split ! $ move ! (1 ∷ []) $
         use1 W (some (λ (zs : Unit {0} × (List Fact × Unit {0})). ‵ (lasts read-facts.ended (κ₁, (ν ∷ [], tt)) (x₁, (lent-at l₄ δ, tt)) zs)
-        ⊛ raw (fact 𝓤 (r ≡ settledRecords (tableOf bs) (length front))) ⊛ raw (fact 𝓤 (zs .1 .0 ≡ filledRecords (tableOf bs) front)))) (id⊢ 𝓤 _) $ pick ! (λ zs.
+        ⊛ raw (fact 𝓤 (TransfersRecords bs front (zs .1 .0) r)))) (id⊢ 𝓤 _) $ pick ! (λ zs.
         split ! $ move ! (1 ∷ []) $ drop ! $
         fsplit ! $
         move ! (1 ∷ []) $

@@ -32,7 +32,7 @@ returns : tie.Need-returns
 returns c =
     let s = c .before .before .before .before .before .before .before .before .before .before .before in
     let q = c .before .before .before .before .before .before .before .question in
-    let p = reply-put (now (s .args .table)) (s .args .q) (now (s .args .out)) _ (q .result) (s .pre) (q .ensures) in
+    let p = reply-put (now (s .args .table)) (s .args .q) (now (s .args .out)) _ (q .result) (s .pre) (q .ensures .0) in
     (c .reply-bytes .ensures ∙ p .0, c .before .before .before .put-code .ensures ∙ p .1)
 
 pub put-reply-spec : {M : Type 1} → statement M

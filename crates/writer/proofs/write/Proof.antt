@@ -30,7 +30,7 @@ returns c =
     let row = now (c .before .before .before .before .before .before .before .args .row) in
     let p = scan-passes (tableOfRow row) (c .before .before .n .given .0 .0) (sym (c .before .before .before .before .scan-row .ensures) ∙ c .before .before .n .given .1) in
     let e = settle-short tableBytes (tableOfRow row) (now (c .before .before .before .before .before .before .before .args .out)) (p .0) (p .1) (rw bytes-length (omega (arith, p .2))) in
-    (sym (e .0), sym (e .1))
+    record { answer = sym (e .0); memory = sym (e .1) }
 
 put-lines-requires : tie.Need-put-lines-requires
 put-lines-requires c κs =
@@ -43,7 +43,7 @@ returns-2 : tie.Need-returns-2
 returns-2 c =
     let row = now (c .before .before .before .before .before .before .args .row) in
     let e = settle-refused tableBytes (tableOfRow row) (now (c .before .before .before .before .before .before .args .out)) _ _ (scan-stops (tableOfRow row) _ _ (sym (c .before .before .before .scan-row .ensures) ∙ c .before .r .given .1)) in
-    (sym (e .0), sym (e .1))
+    record { answer = sym (e .0); memory = sym (e .1) }
 
 same-length : tie.Need-same-length
 same-length c = search needs
@@ -54,7 +54,7 @@ returns-3 c =
     let p = scan-passes (tableOfRow row) (c .before .before .before .before .before .before .n .given .0 .0) (sym (c .before .before .before .before .before .before .before .before .scan-row .ensures) ∙ c .before .before .before .before .before .before .n .given .1) in
     let out = now (c .before .before .before .before .before .before .before .before .before .before .before .args .out) in
     let e = settle-done tableBytes (tableOfRow row) out (p .0) (p .1) (rw bytes-length (omega (arith, p .2))) in
-    (ap Done (sym (p .2)) ∙ sym (e .0), c .before .before .put-lines .ensures ∙ rw (← p .2, row-facts row (p .0) (p .1)) (sym (e .1)))
+    record { answer = ap Done (sym (p .2)) ∙ sym (e .0); memory = c .before .before .put-lines .ensures ∙ rw (← p .2, row-facts row (p .0) (p .1)) (sym (e .1)) }
 
 pub write-spec : {M : Type 1} → statement M
 write-spec =

@@ -3,15 +3,15 @@
 use mathlib.Core.Path.{_≡_, refl, sym, ap, _∙_}
 use mathlib.Core.Bool.{cond}
 use mathlib.Core.List.{List, [], _∷_}
-use Prim.Native.Nat.{_-_}
+use Prim.Native.Nat.{ℕ, _-_}
 use lib.ListN.{getD}
 use lib.Dec.{eqb}
 use Rattle.facts.specs.declared.Code.{Code}
 use Rattle.facts.specs.declared.Refusal.{Refusal}
 use Rattle.facts.specs.declared.Refusal.the-variants.{Size, Column, Term, Blank, Part, Order, Allowance, Short, Form, Step, End}
 use Rattle.facts.specs.declared.Answer.{Answer}
 use Rattle.facts.specs.declared.Answer.the-variants.{Done, Yes, No, Long, Accepted, Refused}
-use Rattle.facts.specs.Answers.{codeOf}
+use Rattle.facts.specs.Answers.{codeOf, YesWith, LongWith, SaysNo, AcceptedWith, RefusedWith}
 
 -- the refusals in the order of their numbers
 abbrev refusals : List Refusal
@@ -47,3 +47,19 @@ answer-back (Refused End place) = refl
 -- answers with the same numbers are the same
 pub same-answer : (a b : Answer) → codeOf a ≡ codeOf b → a ≡ b
 same-answer a b e = sym (answer-back a) ∙ ap (λ c. answerFor c) e ∙ answer-back b
+
+-- what number, place and count say of an answer is that it is so
+pub told-yes : {a : Answer} {f : ℕ} → YesWith (codeOf a) f → a ≡ Yes f
+told-yes {a} {f} e = same-answer a (Yes f) e
+
+pub told-long : {a : Answer} {f : ℕ} → LongWith (codeOf a) f → a ≡ Long f
+told-long {a} {f} e = same-answer a (Long f) e
+
+pub told-no : {a : Answer} → SaysNo (codeOf a) → a ≡ No
+told-no {a} e = same-answer a No e
+
+pub told-accepted : {a : Answer} {n : ℕ} → AcceptedWith (codeOf a) n → a ≡ Accepted n
+told-accepted {a} {n} e = same-answer a (Accepted n) e
+
+pub told-refused : {a : Answer} {r : Refusal} {place : ℕ} → RefusedWith (codeOf a) r place → a ≡ Refused r place
+told-refused {a} {r} {place} e = same-answer a (Refused r place) e
