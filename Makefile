@@ -3,18 +3,32 @@
 SHELL := bash
 .SHELLFLAGS := -euo pipefail -c
 .ONESHELL:
-.PHONY: test demo bench fuzz fmt check-trace host built
+.PHONY: test demo bench fuzz fmt tools-installed check-trace host built
 
 # What is tried after the prover.
 CHECKS := check-trace host
 
+# What the tests run, and the Debian package that has it. client/ tries its header with the C++ compiler too.
+TOOLS := cc:gcc c++:g++ cargo:cargo python3:python3
+
 # rt ci's last line, 'N passed, 0 failed', is held back until every other check has passed.
-test:
+test: tools-installed
 	@log=$$(mktemp)
 	trap 'rm -f "$$log"' EXIT
 	rt ci 2>&1 | tee "$$log" | sed -u '$$d' || { tail -n 1 "$$log"; echo 'make test: rt ci failed'; exit 1; }
 	$(MAKE) --no-print-directory $(CHECKS) || { echo 'make test: a check failed'; exit 1; }
 	tail -n 1 "$$log" | grep -Ex '[0-9]+ passed, 0 failed' || { echo 'make test: rt ci gave no verdict'; exit 1; }
+
+# No test is left out for want of a tool: a missing one fails the run before the prover begins.
+tools-installed:
+	@missing=0
+	command -v rt >/dev/null || { echo 'make test: rt, of the Rattle toolchain, is not installed'; missing=1; }
+	for tool in $(TOOLS); do
+	    command -v "$${tool%:*}" >/dev/null && continue
+	    echo "make test: $${tool%:*} is not installed: Debian has it in the package $${tool#*:}"
+	    missing=1
+	done
+	exit $$missing
 
 # Every name that docs/TRACE.md cites stands in the sources.
 check-trace:
@@ -25,16 +39,10 @@ built:
 	@rt staticlib entail
 	rt check factbox
 
-# The compiled library and program, called from C and from Rust. Without a compiler for one of them that part is left out,
-# and the run says so.
+# The compiled library and program, called from C and from Rust.
 host: built
-	@for part in client:cc tests:cargo; do
-	    if command -v "$${part#*:}" >/dev/null; then
-	        $(MAKE) --no-print-directory -C "$${part%:*}" test
-	    else
-	        echo "make test: $${part%:*} left out, $${part#*:} is not installed"
-	    fi
-	done
+	@$(MAKE) --no-print-directory -C client test
+	$(MAKE) --no-print-directory -C tests test
 
 demo: built
 	@target/bin/factbox < crates/factbox/stdin

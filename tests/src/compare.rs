@@ -1,7 +1,7 @@
-//! One input put to an implementation, its answer and every lent byte held against document 01.
+//! One input put to an implementation, its answer and every lent byte held against document 01 and the choice (`chosen`).
 use crate::calls::Calls;
 use crate::facts::*;
-use crate::lines::{line, Line, DERIVATION_LINE, TABLE_LINE};
+use crate::lines::{in_order, line, DERIVATION_LINE, TABLE_LINE};
 use crate::parts::{Faithful, Parts};
 use std::fmt;
 
@@ -70,17 +70,16 @@ fn same<T: PartialEq>(expected: (u64, Vec<T>), found: (u64, Vec<T>)) -> Verdict 
     }
 }
 
-/// The derivation printed with a yes is free among the shortest ones, so it is judged and not compared.
+/// Every byte of the paper is compared. Which shortest derivation a yes prints is the product's choice (`chosen`) and not
+/// document 01's; so it is first judged as a derivation.
 fn question(candidate: &dyn Calls, table: &[u8], triple: Fact, allowance: u32, paper: usize) -> Verdict {
     let before = bytes(paper, table.len() + allowance as usize % 1000);
-    let mut expected = lend(before.clone(), |paper| Faithful.question(table, triple, allowance, paper).packed());
+    let expected = lend(before.clone(), |paper| Faithful.question(table, triple, allowance, paper).packed());
     let found = lend(before, |paper| candidate.factbox_question(table, triple, allowance, paper));
     same_answer(expected.0, found.0)?;
     if expected.0 & 255 == u64::from(YES) {
         let f = (expected.0 >> 32) as usize;
-        let printed = GUARD..GUARD + DERIVATION_LINE * (2 * f - 1);
-        judge_printed(candidate, table, triple, f, &found.1[printed.clone()])?;
-        expected.1[printed.clone()].copy_from_slice(&found.1[printed]);
+        judge_printed(candidate, table, triple, f, &found.1[GUARD..GUARD + DERIVATION_LINE * (2 * f - 1)])?;
     }
     same(expected, found)
 }
@@ -109,35 +108,13 @@ fn judge_printed(candidate: &dyn Calls, table: &[u8], triple: Fact, f: usize, pr
     Ok(())
 }
 
-/// Facts stand on lines 1, 2, 4, 6, ..; a rule line behind each of them from the second on joins it to the result so far.
-/// The facts are a chain of sp facts, at most one data fact, at most one dom or range fact, a chain of sc facts.
-pub fn in_order(lines: &[Line]) -> bool {
-    let joined = |k: usize| {
-        let (fact, rule) = (lines[2 * k - 1], lines[2 * k]);
-        let (low, high) = (rule.first.min(rule.second), rule.first.max(rule.second));
-        fact.rule == 0 && rule.rule != 0 && (low, high) == (2 * k as u32 - 1, 2 * k as u32)
-    };
-    let facts: Vec<Fact> = [0].into_iter().chain((1..lines.len()).step_by(2)).map(|i| lines[i].fact).collect();
-    let phase = |f: &Fact| match f[1] {
-        SP => 0,
-        DOM | RANGE => 2,
-        SC => 3,
-        _ => 1,
-    };
-    let follows = |a: &Fact, b: &Fact| phase(a) < phase(b) || (a[1] == b[1] && [SP, SC].contains(&a[1]) && a[2] == b[0]);
-    lines.len() % 2 == 1
-        && lines[0].rule == 0
-        && (1..=lines.len() / 2).all(joined)
-        && facts.windows(2).all(|pair| follows(&pair[0], &pair[1]))
-}
-
 /// What stands behind the reply that must come next.
 fn behind<'a>(output: &'a [u8], reply: &[u8]) -> Result<&'a [u8], String> {
     let found = &output[..reply.len().min(output.len())];
-    output.strip_prefix(reply).ok_or_else(|| format!("{:?} printed where document 01 has {:?}", text(found), text(reply)))
+    output.strip_prefix(reply).ok_or_else(|| format!("{:?} printed where {:?} is due", text(found), text(reply)))
 }
 
-/// The program's output, reply by reply, with nothing behind the last.
+/// Every byte of the program's output, reply by reply, with nothing behind the last. A derivation is first judged.
 fn program(candidate: &dyn Calls, input: &[u8]) -> Verdict {
     let output = candidate.factbox(input);
     let mut rest = &output[..];
@@ -152,7 +129,7 @@ fn program(candidate: &dyn Calls, input: &[u8]) -> Verdict {
             let f = count as usize;
             let printed = rest.get(..DERIVATION_LINE * (2 * f - 1)).ok_or("the derivation is cut short")?;
             judge_printed(&Faithful, table, [s, p, o], f, printed)?;
-            rest = &rest[printed.len()..];
+            rest = behind(rest, &paper[..printed.len()])?;
         }
     }
     if rest.is_empty() {

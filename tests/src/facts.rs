@@ -35,6 +35,16 @@ pub fn is_data([_, p, _]: Fact) -> bool {
     is_name(p) || p == TYPE
 }
 
+/// Where a fact stands in a printed derivation: the sp facts, then the data fact, a dom or range fact, the sc facts.
+pub fn phase([_, p, _]: Fact) -> u32 {
+    match p {
+        SP => 0,
+        DOM | RANGE => 2,
+        SC => 3,
+        _ => 1,
+    }
+}
+
 pub const DONE: u32 = 0;
 pub const YES: u32 = 90;
 pub const NO: u32 = 91;

@@ -31,9 +31,13 @@ fn results(parts: &impl Parts, a: Fact, b: Fact) -> impl Iterator<Item = Fact> +
     (1..=6).flat_map(move |rule| [parts.gives(rule, a, b), parts.gives(rule, b, a)]).flatten()
 }
 
+/// The facts at the places of the bits that are set.
+pub fn members(facts: &[Fact], set: u32) -> Vec<Fact> {
+    facts.iter().enumerate().filter(|(i, _)| set >> i & 1 == 1).map(|(_, &f)| f).collect()
+}
+
 pub fn by_subsets(parts: &impl Parts, facts: &[Fact], triple: Fact) -> Option<usize> {
-    let members = |set: u32| facts.iter().enumerate().filter(move |(i, _)| set >> i & 1 == 1).map(|(_, &f)| f);
-    let holds = |set: u32| closure(parts, &members(set).collect::<Vec<_>>()).contains(&triple);
+    let holds = |set: u32| closure(parts, &members(facts, set)).contains(&triple);
     let all = (1 << facts.len()) - 1;
     let mut sets: Vec<u32> = (0..=all).collect();
     sets.sort_by_key(|set| set.count_ones());

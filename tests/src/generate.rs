@@ -65,7 +65,7 @@ pub const BYTES: &[u8] = b" 0123456789\n\t\r+-.ax/:\0\x80\xff";
 
 // Random tables and triples
 
-/// The table's facts, at most `most`, and a triple that often follows from them.
+/// The table's facts, about `most` at most, and a triple that often follows from them.
 pub fn table(r: &mut Random, most: usize) -> (Vec<Fact>, Fact) {
     let size = r.below(most + 1);
     let mut names: Vec<u32> = (6..8 + r.below(2 + size / 2) as u32).chain([39999]).collect();
@@ -75,7 +75,7 @@ pub fn table(r: &mut Random, most: usize) -> (Vec<Fact>, Fact) {
     r.shuffle(&mut terms);
     let mut facts = BTreeSet::new();
     let longest = if r.one_in(2) { size / 2 } else { size.min(4) };
-    let triple = plant(r, &terms, &names, longest, &mut facts);
+    let triple = if r.one_in(4) { plant_net(r, &mut facts) } else { plant(r, &terms, &names, longest, &mut facts) };
     for _ in 0..2 * size {
         if facts.len() < size {
             facts.insert(random_fact(r, &terms, &names));
@@ -89,18 +89,33 @@ fn random_fact(r: &mut Random, terms: &[u32], names: &[u32]) -> Fact {
     [r.pick(terms), r.pick(&[SC, SC, SC, SP, SP, SP, DOM, RANGE, TYPE, TYPE, name, name, name]), r.pick(terms)]
 }
 
-/// Puts the facts of one kind of derivation into the table; gives the triple derived.
+/// Puts most facts of a net into the table; gives its triple.
+fn plant_net(r: &mut Random, facts: &mut BTreeSet<Fact>) -> Fact {
+    let mut names = [6, 7, 8, 9, 10, 39999];
+    r.shuffle(&mut names);
+    let (net, triple) = systematic::nets(names).swap_remove(r.pick(&[0, 1, 2, 3, 4, 4, 4]));
+    facts.extend(net.into_iter().filter(|_| !r.one_in(6)));
+    triple
+}
+
+/// Puts the facts of one kind of derivation into the table, with chains that have side ways; gives the triple derived.
 fn plant(r: &mut Random, terms: &[u32], names: &[u32], longest: usize, facts: &mut BTreeSet<Fact>) -> Fact {
     let (x, y, class, q) = (r.pick(terms), r.pick(terms), r.pick(terms), r.pick(names));
+    let (kind, width) = (r.below(6), r.pick(&[1, 1, 2, 3, 4]));
+    let longest = longest.min(1000 / (width * width));
     let (n, m) = (r.below(longest + 1), r.below(longest + 1));
     let mut round = terms.iter().copied().cycle().skip(r.below(terms.len()));
     let mut chain = |predicate: u32, from: u32, n: usize, facts: &mut BTreeSet<Fact>| {
-        round.by_ref().take(n).fold(from, |a, b| {
-            facts.insert([a, predicate, b]);
-            b
-        })
+        let mut layer = vec![from];
+        for _ in 0..n {
+            let next: Vec<u32> = round.by_ref().take(width).collect();
+            let sideways = layer.iter().flat_map(|&a| next.iter().map(move |&b| [a, predicate, b]));
+            facts.extend(sideways.filter(|&[a, _, b]| (a, b) == (layer[0], next[0]) || r.one_in(2)));
+            layer = next;
+        }
+        layer[0]
     };
-    match r.below(6) {
+    match kind {
         0 => [x, SP, chain(SP, x, n + 1, facts)],
         1 => [x, SC, chain(SC, x, n + 1, facts)],
         2 => {
@@ -192,7 +207,7 @@ fn any_room(r: &mut Random, need: usize) -> usize {
 // Random inputs, one function a call
 
 fn any_allowance(r: &mut Random, facts: &[Fact], triple: Fact) -> u32 {
-    let f = Faithful.fault(triple).map_or_else(|| Faithful.fewest(facts, triple).map_or(1, |d| d.len()), |_| 1) as u32;
+    let f = Faithful.fault(triple).map_or_else(|| Faithful.chosen(facts, triple).map_or(1, |d| d.len()), |_| 1) as u32;
     match r.below(10) {
         0 | 1 => f - 1,
         2 => f + 1,
@@ -251,7 +266,7 @@ fn damage_lines(r: &mut Random, lines: &mut Vec<Line>, facts: &[Fact]) {
 
 fn check(r: &mut Random) -> Input {
     let (facts, target) = any_table(r);
-    let shortest = Faithful.fault(target).map_or_else(|| Faithful.fewest(&facts, target), |_| None);
+    let shortest = Faithful.fault(target).map_or_else(|| Faithful.chosen(&facts, target), |_| None);
     let mut lines = match shortest {
         Some(used) if r.one_in(2) => Faithful.derivation(&used),
         _ if facts.is_empty() => vec![Line::of_table(target)],

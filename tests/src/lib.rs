@@ -1,12 +1,13 @@
 //! An independent implementation of document 01 and its comparison with the static library and the program `factbox`.
 //!
 //! - `facts`, `lines`: terms, facts, answers; five-column fields.
-//! - `parts`: document 01 part by part. `fewest`: f by three algorithms.
+//! - `parts`: document 01 part by part. `fewest`: f by three algorithms. `chosen`: which shortest derivation is printed.
 //! - `calls`: the calls as C sees them. `library`: the static library and the program (feature `library`).
 //! - `generate`, `systematic`: the inputs. `compare`: one input put to two implementations.
 //! - `variants`: broken implementations, each of which the comparison must catch. `cases`: document 01's own cases.
 pub mod calls;
 pub mod cases;
+pub mod chosen;
 pub mod compare;
 pub mod facts;
 pub mod fewest;

@@ -1,5 +1,5 @@
 //! Five-column fields and lines of them (document 01, "Table layout", "Derivation lines and their check").
-use crate::facts::Fact;
+use crate::facts::{phase, Fact, SC, SP};
 
 pub const TABLE_LINE: usize = 16;
 pub const QUESTION_LINE: usize = 21;
@@ -45,4 +45,20 @@ pub fn table_bytes(facts: &[Fact]) -> Vec<u8> {
 
 pub fn derivation_bytes(lines: &[Line]) -> Vec<u8> {
     lines.iter().flat_map(|l| line(&l.numbers())).collect()
+}
+
+/// Facts stand on lines 1, 2, 4, 6, ..; a rule line behind each of them from the second on joins it to the result so far.
+/// The facts are a chain of sp facts, at most one data fact, at most one dom or range fact, a chain of sc facts.
+pub fn in_order(lines: &[Line]) -> bool {
+    let joined = |k: usize| {
+        let (fact, rule) = (lines[2 * k - 1], lines[2 * k]);
+        let (low, high) = (rule.first.min(rule.second), rule.first.max(rule.second));
+        fact.rule == 0 && rule.rule != 0 && (low, high) == (2 * k as u32 - 1, 2 * k as u32)
+    };
+    let facts: Vec<Fact> = [0].into_iter().chain((1..lines.len()).step_by(2)).map(|i| lines[i].fact).collect();
+    let follows = |a: Fact, b: Fact| phase(a) < phase(b) || (a[1] == b[1] && [SP, SC].contains(&a[1]) && a[2] == b[0]);
+    lines.len() % 2 == 1
+        && lines[0].rule == 0
+        && (1..=lines.len() / 2).all(joined)
+        && facts.windows(2).all(|pair| follows(pair[0], pair[1]))
 }

@@ -1,7 +1,7 @@
 //! Document 01, part by part, from its own words. Each part is a method of its own, so that a broken variant
 //! (`variants`) replaces one of them and shares the rest.
+use crate::chosen;
 use crate::facts::*;
-use crate::fewest;
 use crate::lines::{self, derivation_bytes, line, table_bytes, Line, DERIVATION_LINE, QUESTION_LINE, TABLE_LINE};
 
 pub const MOST_FACTS: usize = 1_024;
@@ -69,14 +69,14 @@ pub trait Parts {
     }
 
     fn table(&self, bytes: &[u8]) -> Result<Vec<Fact>, Answer> {
-        if !bytes.len().is_multiple_of(TABLE_LINE) || bytes.len() > TABLE_LINE * MOST_FACTS {
+        if bytes.len() % TABLE_LINE != 0 || bytes.len() > TABLE_LINE * MOST_FACTS {
             return Err(refused(1, 0));
         }
         self.facts(bytes.chunks(TABLE_LINE).map(|line| self.numbers(line)))
     }
 
     fn row(&self, row: &[u32]) -> Result<Vec<Fact>, Answer> {
-        if !row.len().is_multiple_of(3) || row.len() > 3 * MOST_FACTS {
+        if row.len() % 3 != 0 || row.len() > 3 * MOST_FACTS {
             return Err(refused(1, 0));
         }
         self.facts(row.chunks(3).map(|fact| Some([fact[0], fact[1], fact[2]])))
@@ -123,7 +123,7 @@ pub trait Parts {
     // Derivation lines and their check
 
     fn lines(&self, bytes: &[u8]) -> Result<Vec<Line>, Answer> {
-        if bytes.is_empty() || !bytes.len().is_multiple_of(DERIVATION_LINE) || bytes.len() > DERIVATION_LINE * MOST_LINES {
+        if bytes.is_empty() || bytes.len() % DERIVATION_LINE != 0 || bytes.len() > DERIVATION_LINE * MOST_LINES {
             return Err(refused(9, 0));
         }
         let line = |(i, bytes)| {
@@ -198,9 +198,9 @@ pub trait Parts {
         }
     }
 
-    /// The facts of a derivation with the fewest table lines, in printed order; their number is f.
-    fn fewest(&self, facts: &[Fact], triple: Fact) -> Option<Vec<Fact>> {
-        fewest::ways(facts, triple).into_iter().min_by_key(Vec::len)
+    /// The facts of the derivation that is printed where the allowance is enough, in printed order; their number is f.
+    fn chosen(&self, facts: &[Fact], triple: Fact) -> Option<Vec<Fact>> {
+        chosen::chosen(facts, triple)
     }
 
     fn within(&self, f: usize, allowance: u32) -> bool {
@@ -238,7 +238,7 @@ pub trait Parts {
             Err(refusal) => return refusal,
             Ok(facts) => facts,
         };
-        match self.fewest(&facts, triple) {
+        match self.chosen(&facts, triple) {
             None => answered(NO, 0),
             Some(used) if !self.within(used.len(), allowance) => answered(LONG, used.len()),
             Some(used) => {
@@ -276,7 +276,7 @@ pub trait Parts {
             let Answer { number, place, count } = self.question(table, [s, p, o], allowance, &mut paper);
             output.extend(line(&[number, place, count]));
             if number == YES {
-                output.extend(&paper[..DERIVATION_LINE * (2 * count as usize - 1)]);
+                output.extend(paper.iter().take(DERIVATION_LINE * (2 * count as usize - 1)));
             }
         }
         output

@@ -1,18 +1,19 @@
-//! All inputs of some kinds: every byte, length, line, refusal, precedence, rule step and allowance.
+//! All inputs of some kinds: every byte, length, line, refusal, precedence, rule step, allowance and choice.
 use crate::cases::{EXAMPLE_INPUT, T};
 use crate::compare::Input;
 use crate::facts::*;
+use crate::fewest::members;
 use crate::generate::{BYTES, NUMBERS, WIDE_NUMBERS};
 use crate::lines::{derivation_bytes, line, table_bytes, Line};
 use crate::parts::{Faithful, Parts};
 
 pub fn short() -> impl Iterator<Item = Input> {
     let tables = every_byte().chain(every_length()).chain(every_line()).chain(every_row());
-    programs().chain(tables).chain(every_precedence()).chain(every_step())
+    programs().chain(tables).chain(every_precedence()).chain(every_step()).chain(every_choice())
 }
 
 pub fn long() -> impl Iterator<Item = Input> {
-    every_allowance().chain(every_place())
+    every_allowance().chain(lattices()).chain(every_place())
 }
 
 /// The bytes with each byte in turn replaced by each of some.
@@ -29,7 +30,7 @@ fn replaced(bytes: Vec<u8>, by: impl Iterator<Item = u8> + Clone) -> impl Iterat
 
 fn example() -> (Vec<u8>, Fact, Vec<u8>) {
     let triple = [10, 5, 12];
-    let used = Faithful.fewest(&T, triple).expect("case b");
+    let used = Faithful.chosen(&T, triple).expect("case b");
     (table_bytes(&T), triple, derivation_bytes(&Faithful.derivation(&used)))
 }
 
@@ -131,26 +132,43 @@ fn every_precedence() -> impl Iterator<Item = Input> {
     question.chain(check).chain(every_triple)
 }
 
-/// n facts with this predicate that lead from one name to another, with names in order (step 1) or in none, and the triple
-/// derived from all of them.
+/// The i-th of 2,003 names in order (step 1) or in none.
+fn name(i: usize, step: usize) -> u32 {
+    6 + (i * step % 2003) as u32
+}
+
+/// n facts with this predicate that lead from one name to another, and the triple derived from all of them.
 fn chain(n: usize, predicate: u32, step: usize) -> (Vec<Fact>, Fact) {
-    let name = |i: usize| 6 + (i * step % 2003) as u32;
+    let name = |i: usize| name(i, step);
     let mut facts: Vec<Fact> = (0..n).map(|i| [name(i), predicate, name(i + 1)]).collect();
     facts.sort();
     (facts, [name(0), predicate, name(n)])
 }
 
-/// n facts of each kind of derivation that takes all of them, and its triple.
-fn kinds(n: usize, step: usize) -> Vec<(Vec<Fact>, Fact)> {
+/// About n facts with this predicate that lead from one name to another over layers of names, from each name to two of the
+/// next layer; and the triple derived.
+fn lattice(n: usize, predicate: u32, width: usize, step: usize) -> (Vec<Fact>, Fact) {
+    let (first, last, depth) = (name(0, step), name(2002, step), (n / (2 * width)).max(1));
+    let node = |layer: usize, i: usize| name(1 + layer * width + i % width, step);
+    let ends = (0..width).flat_map(|i| [[first, predicate, node(0, i)], [node(depth - 1, i), predicate, last]]);
+    let inner = (1..depth).flat_map(|layer| (0..2 * width).map(move |i| (layer, i)));
+    let mut facts: Vec<Fact> =
+        ends.chain(inner.map(|(layer, i)| [node(layer - 1, i / 2), predicate, node(layer, i.div_ceil(2))])).collect();
+    facts.sort();
+    (facts, [first, predicate, last])
+}
+
+/// The facts of each kind of derivation, n where a chain has as many facts as asked for, and its triple.
+fn kinds(n: usize, chain: impl Fn(usize, u32) -> (Vec<Fact>, Fact)) -> Vec<(Vec<Fact>, Fact)> {
     let (x, y) = (39998, 40000);
-    let mut kinds = vec![chain(n, SC, step), chain(n, SP, step)];
-    let (classes, [class, _, last_class]) = chain(n - 1, SC, step);
+    let mut kinds = vec![chain(n, SC), chain(n, SP)];
+    let (classes, [class, _, last_class]) = chain(n - 1, SC);
     kinds.push(([classes, vec![[x, TYPE, class]]].concat(), [x, TYPE, last_class]));
-    let (properties, [property, _, last_property]) = chain(n - 1, SP, step);
+    let (properties, [property, _, last_property]) = chain(n - 1, SP);
     kinds.push(([properties, vec![[x, property, y]]].concat(), [x, last_property, y]));
     if n >= 2 {
-        let (properties, [property, _, fires]) = chain((n - 2) / 2, SP, step);
-        let (classes, [class, _, last_class]) = chain(n - 2 - (n - 2) / 2, SC, step);
+        let (properties, [property, _, fires]) = chain((n - 2) / 2, SP);
+        let (classes, [class, _, last_class]) = chain(n - 2 - (n - 2) / 2, SC);
         for (predicate, typed) in [(DOM, x), (RANGE, y)] {
             let facts = [&properties[..], &classes, &[[x, property, y], [fires, predicate, class]]].concat();
             kinds.push((facts, [typed, TYPE, last_class]));
@@ -169,7 +187,7 @@ fn every_allowance() -> impl Iterator<Item = Input> {
         [need.saturating_sub(1), need, need + 1].map(question)
     });
     let sizes = (1..64).chain([127, 128, 129, 255, 256, 257, 511, 512, 513, 1023, 1024]);
-    let all = sizes.flat_map(|n| [1, 701].into_iter().flat_map(move |step| kinds(n, step)));
+    let all = sizes.flat_map(|n| [1, 701].into_iter().flat_map(move |step| kinds(n, |n, predicate| chain(n, predicate, step))));
     let counts = all.flat_map(|(facts, triple)| {
         let n = facts.len() as u32;
         [n - 1, n, (n + 1).min(1024)].map(|allowance| Input::Question {
@@ -180,6 +198,61 @@ fn every_allowance() -> impl Iterator<Item = Input> {
         })
     });
     papers.chain(counts)
+}
+
+/// The facts as a table with a question, put to the call, and to the program as well where that is said.
+fn asked(facts: &[Fact], triple: Fact, allowance: u32, program: bool) -> impl Iterator<Item = Input> {
+    let (table, [s, p, o]) = (table_bytes(facts), triple);
+    let input = [&table[..], &line(&[0; 3]), &line(&[s, p, o, allowance])].concat();
+    let question = Input::Question { table, triple, allowance, paper: Faithful.paper(allowance) + 5 };
+    [question].into_iter().chain(program.then_some(Input::Program { input }))
+}
+
+/// Facts of which many subsets have several shortest derivations of a triple: the two ways through a square of each kind of
+/// chain, and a type by domain, by range and by neither.
+pub fn nets([a, b, c, d, x, y]: [u32; 6]) -> Vec<(Vec<Fact>, Fact)> {
+    let square = |first: [Fact; 2], p: u32, triple: Fact| {
+        let rest = [[a, p, c], [a, p, d], [b, p, c], [b, p, d], [c, p, y], [d, p, y]];
+        ([&first[..], &rest].concat(), triple)
+    };
+    let types = [[x, TYPE, c], [x, TYPE, d], [c, SC, d], [c, SC, y], [d, SC, y]];
+    let properties = [[x, a, x], [x, b, x], [a, SP, b], [a, DOM, c], [a, RANGE, c], [b, DOM, d], [b, RANGE, d]];
+    vec![
+        square([[x, SC, a], [x, SC, b]], SC, [x, SC, y]),
+        square([[x, SP, a], [x, SP, b]], SP, [x, SP, y]),
+        square([[x, TYPE, a], [x, TYPE, b]], SC, [x, TYPE, y]),
+        square([[x, a, c], [x, b, c]], SP, [x, y, c]),
+        ([&types[..], &properties].concat(), [x, TYPE, y]),
+    ]
+}
+
+/// Every subset of these facts, with the names in several orders, and the triple.
+pub fn choices() -> impl Iterator<Item = (Vec<Fact>, Fact)> {
+    let orders = (0..12).map(|i| {
+        let mut names = [6, 7, 8, 9, 10, 11];
+        names.rotate_left(i % 6);
+        if i < 6 {
+            names.reverse();
+        }
+        names
+    });
+    orders.flat_map(nets).flat_map(|(mut facts, triple)| {
+        facts.sort();
+        (0..1 << facts.len()).map(move |set| (members(&facts, set), triple))
+    })
+}
+
+/// All of them as questions, and every 61st put to the program as well.
+fn every_choice() -> impl Iterator<Item = Input> {
+    choices().enumerate().flat_map(|(i, (facts, triple))| asked(&facts, triple, 8, i % 61 == 0))
+}
+
+/// Lattices of each kind, up to full tables.
+fn lattices() -> impl Iterator<Item = Input> {
+    let sizes = [16, 64, 256, 1024].into_iter().flat_map(|n| [3, 4, 7].map(|width| (n, width)));
+    let shapes = sizes.flat_map(|(n, width)| [1, 701, 1301].map(|step| (n, width, step)));
+    let all = shapes.flat_map(|(n, width, step)| kinds(n, |n, predicate| lattice(n, predicate, width, step)));
+    all.flat_map(|(facts, triple)| asked(&facts, triple, 1024, true))
 }
 
 /// Every number of the example's row replaced by each of some.
@@ -235,7 +308,7 @@ fn every_step() -> impl Iterator<Item = Input> {
 fn every_place() -> impl Iterator<Item = Input> {
     let (facts, triple) = chain(1024, SC, 701);
     let (table, derivation) =
-        (table_bytes(&facts), derivation_bytes(&Faithful.derivation(&Faithful.fewest(&facts, triple).expect("a chain"))));
+        (table_bytes(&facts), derivation_bytes(&Faithful.derivation(&Faithful.chosen(&facts, triple).expect("a chain"))));
     let damaged = |bytes: &[u8], i: usize| {
         let mut bytes = bytes.to_vec();
         bytes[i] = BYTES[i % 7919 % BYTES.len()];

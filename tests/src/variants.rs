@@ -1,13 +1,18 @@
 //! Broken implementations, each wrong in one part, among them the jams that document 01 expects. The comparison must catch
 //! every one of them; where it does not, it is too weak.
 use crate::calls::Calls;
+use crate::chosen::{all_shortest, chosen_by_range, chosen_upward, rank};
 use crate::facts::*;
 use crate::fewest;
 use crate::lines::{self, line, table_bytes, Line, DERIVATION_LINE, QUESTION_LINE, TABLE_LINE};
 use crate::parts::{Faithful, Parts};
+use std::cmp::Reverse;
 use std::collections::BTreeSet;
 
 type Named = (&'static str, Box<dyn Calls>);
+
+/// Variants that try everything are faithful on tables of more facts.
+const SMALL: usize = 12;
 
 /// Variants that replace one and the same method: its signature, then a name and a body for each; and the list of them.
 macro_rules! variants {
@@ -25,7 +30,7 @@ macro_rules! variants {
 /// Every variant with its name.
 pub fn all() -> Vec<Named> {
     let single: Vec<Named> = vec![("LineEndIgnored", Box::new(LineEndIgnored))];
-    let question = [of_fewest(), of_within(), of_question(), of_sound(), of_join(), of_derivation()];
+    let question = [of_chosen(), of_choice(), of_within(), of_question(), of_sound(), of_join(), of_derivation()];
     let check = [of_gives(), of_table_lines(), of_judge(), of_ends_in(), of_premise(), of_justified(), of_in_table()];
     let table = [of_place(), of_above(), of_number(), of_fault(), of_table(), of_read(), of_row(), of_write(), single];
     let program = [of_divider(), of_program()];
@@ -62,9 +67,9 @@ variants! { of_gives: gives(&self, rule: u32, p: Fact, q: Fact) -> Option<Fact>;
 struct InSearch<R>(R);
 impl<R: Parts> Parts for InSearch<R> {
     /// On tables small enough: f by the broken rules, with a derivation of as many facts or with nothing in particular.
-    fn fewest(&self, facts: &[Fact], triple: Fact) -> Option<Vec<Fact>> {
-        let faithful = Faithful.fewest(facts, triple);
-        if facts.len() > 12 {
+    fn chosen(&self, facts: &[Fact], triple: Fact) -> Option<Vec<Fact>> {
+        let faithful = Faithful.chosen(facts, triple);
+        if facts.len() > SMALL {
             return faithful;
         }
         let f = fewest::by_cost(&self.0, facts, triple)?;
@@ -87,21 +92,78 @@ fn in_search() -> Vec<Named> {
 
 // The question
 
-variants! { of_fewest: fewest(&self, facts: &[Fact], triple: Fact) -> Option<Vec<Fact>>;
-    ReflexiveSubclass => Faithful.fewest(facts, triple).or((triple[1] == SC && triple[0] == triple[2]).then(|| vec![triple])),
+variants! { of_chosen: chosen(&self, facts: &[Fact], triple: Fact) -> Option<Vec<Fact>>;
+    ReflexiveSubclass => Faithful.chosen(facts, triple).or((triple[1] == SC && triple[0] == triple[2]).then(|| vec![triple])),
     FirstFoundForShortest => fewest::ways(facts, triple).into_iter().next(),
     LongestWay => fewest::ways(facts, triple).into_iter().max_by_key(Vec::len),
     DomainOnly => {
         let by_range = |used: &Vec<Fact>| triple[1] == TYPE && used.iter().any(|f| f[1] == RANGE);
         fewest::ways(facts, triple).into_iter().filter(|used| !by_range(used)).min_by_key(Vec::len)
     },
-    DepthBound => Faithful.fewest(facts, triple).filter(|used| used.len() < 1024),
-    LastFactUnseen => Faithful.fewest(&facts[..facts.len().min(1023)], triple),
-    DataFactFirst => Faithful.fewest(facts, triple).map(|mut used| {
+    DepthBound => Faithful.chosen(facts, triple).filter(|used| used.len() < 1024),
+    LastFactUnseen => Faithful.chosen(&facts[..facts.len().min(1023)], triple),
+    DataFactFirst => Faithful.chosen(facts, triple).map(|mut used| {
         used.sort_by_key(|&f| !is_data(f));
         used
     }),
-    NoToEverything => Faithful.fewest(facts, triple).filter(|_| false),
+    NoToEverything => Faithful.chosen(facts, triple).filter(|_| false),
+}
+
+// The choice among the shortest derivations
+
+/// The derivation that an upside-down table would choose, where that is said.
+fn last_if(wrong: bool, facts: &[Fact], triple: Fact) -> Option<Vec<Fact>> {
+    if wrong {
+        chosen_upward(facts, triple)
+    } else {
+        Faithful.chosen(facts, triple)
+    }
+}
+
+/// On tables small enough: all shortest derivations, ordered by a key that is made from whether they go by range and from the
+/// places of their facts from the path's last back; and the n-th of them, or the last.
+fn nth_by<K: Ord>(n: usize, facts: &[Fact], triple: Fact, key: impl Fn(&[Fact], bool, Vec<usize>) -> K) -> Option<Vec<Fact>> {
+    let used = Faithful.chosen(facts, triple)?;
+    if facts.len() > SMALL {
+        return Some(used);
+    }
+    let mut all = all_shortest(facts, triple, used.len());
+    all.sort_by_key(|used| {
+        let (by_range, places) = rank(facts, used);
+        key(used, by_range, places)
+    });
+    all.truncate(n + 1);
+    all.pop()
+}
+
+fn backward(mut places: Vec<usize>) -> Vec<usize> {
+    places.reverse();
+    places
+}
+
+variants! { of_choice: chosen(&self, facts: &[Fact], triple: Fact) -> Option<Vec<Fact>>;
+    AnyShortest => fewest::ways(facts, triple).into_iter().min_by_key(Vec::len),
+    LastShortest => chosen_upward(facts, triple),
+    LastSubclassChain => last_if(triple[1] == SC, facts, triple),
+    LastSubpropertyChain => last_if(triple[1] == SP, facts, triple),
+    LastType => last_if(triple[1] == TYPE, facts, triple),
+    LastOfName => last_if(is_name(triple[1]), facts, triple),
+    LastInFullTable => last_if(facts.len() > 1000, facts, triple),
+    LastOfLongOnes => last_if(Faithful.chosen(facts, triple)?.len() > 100, facts, triple),
+    RangeOnTie => chosen_by_range(facts, triple),
+    WaysAlike => nth_by(0, facts, triple, |_, _, places| places),
+    TypeFactOnTie => nth_by(0, facts, triple, |used, by_range, places| (used.iter().any(|f| phase(*f) == 2), by_range, places)),
+    DomainOnTie => nth_by(0, facts, triple, |used, by_range, places| (!used.iter().any(|f| f[1] == DOM), by_range, places)),
+    SecondShortest => nth_by(1, facts, triple, |_, by_range, places| (by_range, places)),
+    EarliestFirstFact => nth_by(0, facts, triple, |_, by_range, places| (by_range, backward(places))),
+    EarliestLastFactOnly => nth_by(0, facts, triple, |_, by_range, places| (by_range, places[0], Reverse(places))),
+    LatestFirstFact => nth_by(0, facts, triple, |_, by_range, mut places| {
+        let first = places.pop();
+        (by_range, places, Reverse(first))
+    }),
+    EarliestAsPrinted => nth_by(0, facts, triple, |used, by_range, _| {
+        (by_range, used.iter().rev().copied().collect::<Vec<_>>())
+    }),
 }
 
 variants! { of_within: within(&self, f: usize, allowance: u32) -> bool;
@@ -135,7 +197,7 @@ variants! { of_question: question(&self, table: &[u8], triple: Fact, allowance: 
 variants! { of_sound: sound(&self, table: &[u8], triple: Fact, allowance: u32, paper: usize) -> Result<Vec<Fact>, Answer>;
     PaperAsPrinted => {
         let facts = Faithful.sound(table, triple, allowance, usize::MAX)?;
-        match Faithful.fewest(&facts, triple) {
+        match Faithful.chosen(&facts, triple) {
             Some(used) if used.len() <= allowance as usize && paper < Faithful.paper(used.len() as u32) => Err(refused(8, 0)),
             _ => Ok(facts),
         }
@@ -156,7 +218,7 @@ variants! { of_join: join(&self, result: Line, number: u32, fact: Fact) -> Line;
 variants! { of_derivation: derivation(&self, facts: &[Fact]) -> Vec<Line>;
     FactsFirst => {
         // lines 1, 2, 4, 6, .. move to the front, lines 3, 5, 7, .. behind them
-        let moved = |p: u32| if p < 2 { p } else if p.is_multiple_of(2) { p / 2 + 1 } else { facts.len() as u32 + p / 2 };
+        let moved = |p: u32| if p < 2 { p } else if p % 2 == 0 { p / 2 + 1 } else { facts.len() as u32 + p / 2 };
         let lines = Faithful.derivation(facts);
         let rules = lines.iter().filter(|l| l.rule != 0).map(|l| Line { first: moved(l.first), second: moved(l.second), ..*l });
         facts.iter().map(|&f| Line::of_table(f)).chain(rules).collect()
@@ -177,7 +239,7 @@ variants! { of_table_lines: table_lines(&self, lines: &[Line]) -> usize;
 
 variants! { of_judge: judge(&self, table: &[u8], triple: Fact, derivation: &[u8]) -> Result<usize, Answer>;
     StepBeforeForm => {
-        let whole = derivation.len().is_multiple_of(DERIVATION_LINE);
+        let whole = derivation.len() % DERIVATION_LINE == 0;
         for n in (1..=2047).map(|n| n * DERIVATION_LINE).take_while(|&n| whole && n <= derivation.len()) {
             Faithful.judge(table, triple, &derivation[..n]).or_else(|refusal| if refusal.number == 11 { Ok(0) } else { Err(refusal) })?;
         }
@@ -275,7 +337,7 @@ variants! { of_table: table(&self, bytes: &[u8]) -> Result<Vec<Fact>, Answer>;
 
 variants! { of_read: read(&self, table: &[u8], row: &mut [u32]) -> Answer;
     ShortBeforeLines => {
-        let short = table.len().is_multiple_of(TABLE_LINE) && table.len() <= 16_384 && 16 * row.len() < 3 * table.len();
+        let short = table.len() % TABLE_LINE == 0 && table.len() <= 16_384 && 16 * row.len() < 3 * table.len();
         if short { refused(8, 0) } else { Faithful.read(table, row) }
     },
     RowFilledBeforeRefusal => {
@@ -315,6 +377,7 @@ variants! { of_divider: divider(&self, input: &[u8]) -> Option<usize>;
 }
 
 variants! { of_program: program(&self, input: &[u8]) -> Vec<u8>;
+    LastShortestInProgram => LastShortest.program(input),
     OneRefusalForTheTable => match Faithful.questions(input).map(|(table, _)| Faithful.table(table)) {
         Some(Err(refusal)) => line(&[refusal.number, refusal.place, 0]),
         _ => Faithful.program(input),

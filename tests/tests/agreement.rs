@@ -1,14 +1,21 @@
-//! The independent implementation against itself: its algorithms for f, document 01's own cases, and what it prints.
+//! The independent implementation against itself: its algorithms for f, its choice among the shortest derivations, document
+//! 01's own cases, and what it prints.
+use factbox_tests::chosen::{all_shortest, rank, several};
 use factbox_tests::compare::compare;
 use factbox_tests::facts::*;
 use factbox_tests::fewest::{by_cost, by_subsets, closure, ways};
 use factbox_tests::generate::{inputs, table, Random};
 use factbox_tests::parts::{Faithful, Parts};
+use factbox_tests::systematic::choices;
 use factbox_tests::{cases, lines};
 use std::collections::HashMap;
 
 fn by_ways(facts: &[Fact], triple: Fact) -> Option<usize> {
     ways(facts, triple).iter().map(Vec::len).min()
+}
+
+fn by_choice(facts: &[Fact], triple: Fact) -> Option<usize> {
+    Faithful.chosen(facts, triple).map(|used| used.len())
 }
 
 /// Tables of at most `most` facts, each with some triples: the one planted, derivable ones, others.
@@ -27,13 +34,14 @@ fn questions(seed: u64, tables: usize, most: usize) -> impl Iterator<Item = (Vec
 }
 
 #[test]
-fn the_least_subset_and_the_uniform_cost_and_the_ways_agree() {
+fn the_least_subset_and_the_uniform_cost_and_the_ways_and_the_choice_agree() {
     let mut derivable = [0; 9];
-    for (facts, triples) in questions(1, 4000, 8) {
+    for (facts, triples) in questions(1, 8000, 8) {
         for triple in triples {
             let f = by_subsets(&Faithful, &facts, triple);
             assert_eq!(f, by_cost(&Faithful, &facts, triple), "by cost: {triple:?} over {facts:?}");
             assert_eq!(f, by_ways(&facts, triple), "by ways: {triple:?} over {facts:?}");
+            assert_eq!(f, by_choice(&facts, triple), "by choice: {triple:?} over {facts:?}");
             derivable[f.unwrap_or(0)] += 1;
         }
     }
@@ -42,12 +50,30 @@ fn the_least_subset_and_the_uniform_cost_and_the_ways_agree() {
 }
 
 #[test]
-fn the_uniform_cost_and_the_ways_agree_on_larger_tables() {
+fn the_uniform_cost_and_the_ways_and_the_choice_agree_on_larger_tables() {
     for (facts, triples) in questions(2, 300, 40) {
         for triple in triples {
-            assert_eq!(by_cost(&Faithful, &facts, triple), by_ways(&facts, triple), "{triple:?} over {facts:?}");
+            let f = by_cost(&Faithful, &facts, triple);
+            assert_eq!(f, by_ways(&facts, triple), "by ways: {triple:?} over {facts:?}");
+            assert_eq!(f, by_choice(&facts, triple), "by choice: {triple:?} over {facts:?}");
         }
     }
+}
+
+#[test]
+fn the_chosen_derivation_is_the_one_of_least_rank_among_all_shortest_ones() {
+    let random = questions(4, 10_000, 12).flat_map(|(facts, triples)| triples.into_iter().map(move |triple| (facts.clone(), triple)));
+    let mut counts = [0; 13];
+    for (facts, triple) in random.chain(choices().step_by(7)) {
+        let f = by_cost(&Faithful, &facts, triple);
+        let all = f.map_or(vec![], |f| all_shortest(&facts, triple, f));
+        counts[f.unwrap_or(0)] += usize::from(all.len() > 1);
+        assert_eq!(several(&facts, triple), all.len() > 1, "{triple:?} over {facts:?}");
+        let least = all.into_iter().min_by_key(|used| rank(&facts, used));
+        assert_eq!(Faithful.chosen(&facts, triple), least, "{triple:?} over {facts:?}");
+    }
+    println!("questions over small tables with several shortest derivations, by f: {counts:?}");
+    assert!(counts[2..6].iter().all(|&n| n > 20), "{counts:?}");
 }
 
 #[test]
