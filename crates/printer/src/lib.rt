@@ -1,13 +1,21 @@
-// What the program prints for an input (document 01, "Panel and program"), to standard output. What the bytes are is proved in
-// `batch`; here they are written, piece by piece.
+// What the program prints for an input (document 01, "Panel and program"), to standard output, piece by piece. What the pieces
+// are is said by `batch`. A contract can't say what is written: here the length is proved, and the bytes are seen by running.
 use batch::Input;
+use facts::Answer;
+use facts::Refusal;
 use libc::STDOUT_FILENO;
 use replies::REPLY_BYTES;
 ghost use mathlib.Core.Path.{_≡_};
 ghost use Prim.Native.Nat.{_≤_};
 ghost use lib.ListN.{length};
-ghost use Rattle.batch.specs.Output.{outputOf};
-ghost use Rattle.printer.specs.Replies.{replies};
+ghost use Rattle.batch.specs.Output.{codeLine, outputOf};
+ghost use Rattle.printer.specs.Replies.{replies, Counted};
+
+// Whether all was written, and then its length. Where a write failed, nothing more was tried: `bytes` is what went before it.
+pub struct Printed {
+    pub whole: bool,
+    pub bytes: usize,
+}
 
 // Memory for the longest reply.
 fn reply_space() -> [u8; REPLY_BYTES]
@@ -16,33 +24,49 @@ fn reply_space() -> [u8; REPLY_BYTES]
     [0u8; REPLY_BYTES]
 }
 
-// Prints the reply to each question, and gives their length. Only one reply at a time is in memory.
-fn print_replies(input: &[u8], table: usize, questions: usize) -> usize
+// Prints the reply to each question, up to the first that can't be written. Only one reply at a time is in memory.
+fn print_replies(input: &[u8], table: usize, questions: usize) -> Printed
     requires { ⌜ questions ≤ 2048 ⌝ }
-    ensures { λ r. ⌜ r ≡ length (replies (now (input .entry)) table questions) ⌝ }
+    ensures { λ r. ⌜ Counted (replies (now (input .entry)) table questions) r ⌝ }
 {
     let mut out = reply_space();
     let mut printed = 0;
     let mut k = 0;
     while k < questions {
         let size = replies::reply(input, table, k, &mut out);
-        io::write_all(STDOUT_FILENO, &out[..size]);
+        if !io::write_all(STDOUT_FILENO, &out[..size]) {
+            return Printed {
+                whole: false,
+                bytes: printed,
+            };
+        }
         printed += size;
         k += 1;
     }
-    printed
+    Printed {
+        whole: true,
+        bytes: printed,
+    }
 }
 
-// Prints the whole output for an input, and gives its length.
-pub fn print_output(input: &[u8]) -> usize
-    ensures { λ r. ⌜ r ≡ length (outputOf (now (input .entry))) ⌝ }
+// Prints the one line for a torn input.
+pub fn print_torn() -> Printed
+    ensures { λ r. ⌜ Counted (codeLine (Answer.Refused Refusal.Form 0)) r ⌝ }
+{
+    let line = replies::refusal();
+    let whole = io::write_all(STDOUT_FILENO, &line);
+    Printed {
+        whole: whole,
+        bytes: line.len(),
+    }
+}
+
+// Prints the whole output for an input.
+pub fn print_output(input: &[u8]) -> Printed
+    ensures { λ r. ⌜ Counted (outputOf (now (input .entry))) r ⌝ }
 {
     match input::layout(input) {
-        Input::Torn => {
-            let line = replies::refusal();
-            io::write_all(STDOUT_FILENO, &line);
-            line.len()
-        }
+        Input::Torn => print_torn(),
         Input::Parts { table, questions } => print_replies(input, table, questions),
     }
 }

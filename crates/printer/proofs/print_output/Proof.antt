@@ -1,6 +1,6 @@
 -- `printer::print_output` meets its contract: it prints the refusal or the replies, whose lengths are that of the output.
 -- Assumes nothing.
-use mathlib.Core.Path.{sym, _∙_}
+use mathlib.Core.Path.{sym, ap, _∙_}
 use denote.Ref.{now}
 use borrow.Author.Needs.{needs}
 use Rattle.printer.proofs.Few.{parts-few, torn-length, replies-length}
@@ -13,14 +13,8 @@ layout-requires c κs = search needs
 enum-told : tie.Need-enum-told
 enum-told c = search needs
 
-refusal-requires : tie.Need-refusal-requires
-refusal-requires c κs = search needs
-
-slice-aggregate-write-all : tie.Need-slice-aggregate-write-all
-slice-aggregate-write-all c = search needs
-
-write-all-requires : tie.Need-write-all-requires
-write-all-requires c κs = search needs
+print-torn-requires : tie.Need-print-torn-requires
+print-torn-requires c κs = search needs
 
 enum-known-table : tie.Need-enum-known-table
 enum-known-table c = search needs
@@ -29,24 +23,15 @@ print-replies-requires : tie.Need-print-replies-requires
 print-replies-requires c κs = parts-few (now (c .before .before .before .before .before .args .input)) _ _ (sym (c .before .before .before .layout .ensures) ∙ c .before .table .given .1)
 
 returns : tie.Need-returns
-returns c = torn-length (now (c .before .before .before .before .before .before .before .args .input))
-    (sym (c .before .before .before .before .before .layout .ensures) ∙ c .before .before .before .enum-told .given .1)
+returns c w =
+    c .print-torn .ensures w
+    ∙ torn-length (now (c .before .before .before .before .before .args .input)) (sym (c .before .before .before .layout .ensures) ∙ c .before .enum-told .given .1)
 
 returns-2 : tie.Need-returns-2
-returns-2 c =
-    c .print-replies .ensures
+returns-2 c w =
+    c .print-replies .ensures w
     ∙ replies-length (now (c .before .before .before .before .before .before .args .input)) _ _ (sym (c .before .before .before .before .layout .ensures) ∙ c .before .before .table .given .1)
 
 pub print-output-spec : {M : Type 1} → statement M
 print-output-spec =
-    tie.close
-    (tie.spec
-    layout-requires
-    enum-told
-    refusal-requires
-    slice-aggregate-write-all
-    write-all-requires
-    enum-known-table
-    print-replies-requires
-    returns
-    returns-2)
+    tie.close (tie.spec layout-requires enum-told print-torn-requires enum-known-table print-replies-requires returns returns-2)

@@ -1,7 +1,7 @@
 -- `printer::print_replies` meets its contract. The loop's invariant: so many bytes have been printed as the replies so far have.
 -- Assumes nothing.
 use mathlib.Core.Path.{_≡_, refl, sym, ap, _∙_}
-use Prim.Native.Nat.{_-_, _*_, _≤_}
+use Prim.Native.Nat.{ℕ, _-_, _*_, _≤_}
 use native.Mathlib.Omega.{arith}
 use lib.ListN.{length, length-append, length-take}
 use denote.Ref.{now}
@@ -46,7 +46,7 @@ write-all-requires : tie.Need-write-all-requires Inv-loop μ-loop
 write-all-requires c κs = search needs
 
 add-printed : tie.Need-add-printed Inv-loop μ-loop
-add-printed c = omega (arith, fits (c .before .before .before))
+add-printed c = omega (arith, fits (c .before .before .before .before))
 
 add-k : tie.Need-add-k Inv-loop μ-loop
 add-k c = omega arith
@@ -56,17 +56,21 @@ loop-less c = omega arith
 
 loop-again : tie.Need-loop-again Inv-loop μ-loop
 loop-again c =
-    let s = c .before .before .before .before .before .before .before .before .before in
-    let l = c .before .before .before .before .before .before .loop in
-    let r = c .before .before .before .reply in
+    let s = c .before .before .before .before .before .before .before .before .before .before in
+    let l = c .before .before .before .before .before .before .before .loop in
+    let r = c .before .before .before .before .reply in
     let input = now (s .args .input) in
     let table = s .args .table in
     let size : r .result ≡ length (replyIn input table (l .k) 63473) = r .ensures .0 ∙ rw (← l .inv .1) in
     let more = flat-more (λ k. replyIn input table k 63473) (λ k. k) (l .k) in
-    (omega arith, l .inv .1 ∙ sym (r .kept .1 .1 .1 .0), rw (more, length-append) (omega (arith, size, l .inv .2)), omega (arith, fits (c .before .before .before)))
+    (omega arith, l .inv .1 ∙ sym (r .kept .1 .1 .1 .0), rw (more, length-append) (omega (arith, size, l .inv .2)), omega (arith, fits (c .before .before .before .before)))
 
+-- a write failed: nothing is said of the length
 returns : tie.Need-returns Inv-loop μ-loop
-returns c = let e : c .before .loop .k ≡ c .before .before .before .before .args .questions = omega arith in c .before .loop .inv .2 ∙ rw e
+returns c e = let z : _≡_ {A = ℕ} 0 1 = cc in absurd (omega arith)
+
+returns-2 : tie.Need-returns-2 Inv-loop μ-loop
+returns-2 c w = let e : c .before .loop .k ≡ c .before .before .before .before .args .questions = omega arith in c .before .loop .inv .2 ∙ rw e
 
 pub print-replies-spec : {M : Type 1} → statement M
 print-replies-spec =
@@ -81,8 +85,9 @@ print-replies-spec =
     array-share-prefix-out
     slice-aggregate-write-all
     write-all-requires
+    returns
     add-printed
     add-k
     loop-less
     loop-again
-    returns)
+    returns-2)
