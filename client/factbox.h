@@ -9,13 +9,26 @@
  *   40000 to 59999                                             literals: subject or object
  *   60000 to 65535                                             blank nodes: refused
  *
- * A derivation is bytes: lines of 31 bytes, six such fields (rule, first premise, second premise, subject, predicate,
- * object), then byte 10. Rule 0 is a table fact, with premises 0 and 0. Rules 1 to 6 have line numbers, counted from 1, as
- * premises. 1 to 2,047 lines.
+ * A fact follows from a table if the table has it or if one of six rules gives it, from facts that follow. A rule has two
+ * premises, in this order, and one result; all three must be facts as above. In the rules sc stands for predicate 1
+ * (subclass), sp for 2 (subproperty), dom for 3 (domain), range for 4, type for 5; A, B, C, X, Y for any number.
  *
- *   1. (A sp B), (B sp C) give (A sp C).          4. (A sc B), (X type A) give (X type B).
- *   2. (A sp B), (X A Y) give (X B Y).            5. (A dom B), (X A Y) give (X type B).
- *   3. (A sc B), (B sc C) give (A sc C).          6. (A range B), (X A Y) give (Y type B).
+ *   1. (A sp B), (B sp C) give (A sp C)        if A is a subproperty of B, and B one of C, then A is one of C
+ *   2. (A sp B), (X A Y) give (X B Y)          if A is a subproperty of B, what is said with A holds with B
+ *   3. (A sc B), (B sc C) give (A sc C)        if A is a subclass of B, and B one of C, then A is one of C
+ *   4. (A sc B), (X type A) give (X type B)    if A is a subclass of B, what is of type A is of type B
+ *   5. (A dom B), (X A Y) give (X type B)      if B is a domain of A, the subject of a fact with A is of type B
+ *   6. (A range B), (X A Y) give (Y type B)    if B is a range of A, the object of a fact with A is of type B
+ *
+ * A derivation shows that a fact follows. It is bytes: 1 to 2,047 lines of 31 bytes, six fields of five columns as above and
+ * byte 10. The last line has the fact itself. The fields of a line are:
+ *
+ *   rule             0: this is a table fact; 1 to 6: this rule gives it
+ *   first premise    the line that has the rule's first premise: its number, counted from 1, below this line's; 0 with rule 0
+ *   second premise   the same for the second premise; it may be the same line
+ *   subject          of this line's fact
+ *   predicate
+ *   object
  *
  * For every call:
  * - It ends, whatever it is given, and it needs no test of its input beforehand: what is wrong gets a refusal.
@@ -67,8 +80,12 @@ enum {
     FACTBOX_DERIVATION_LINE = 31,       /* bytes */
     FACTBOX_DERIVATION_LINES_MAX = 2047,
     FACTBOX_DERIVATION_MAX = 63457,     /* bytes */
-    FACTBOX_STACK_MAX = 65536           /* bytes */
+    FACTBOX_STACK_MAX = 65536           /* bytes: no call takes more */
 };
+
+/* Stack as measured on x86-64 (test_stack.c), in bytes, on full tables: factbox_question 35,272, factbox_check 12,856,
+ * factbox_read 12,472, factbox_write 72. Where the dynamic linker looks up memcpy, memmove or memset at its first use, it
+ * takes some 3,100 bytes on top of the call that needs it. */
 
 /* Whether (subject predicate object) follows from the table, from how few of its facts, and a derivation with that many.
  * `limit` is the allowance: how many table facts it may take, 0 to 1,024. `output` has at least factbox_output_size(limit)

@@ -13,7 +13,7 @@ static int failures;
         } \
     } while (0)
 
-/* The table of document 01's example, and the derivation of (10 5 12) from it. */
+/* The table of the example in document 01 (the customer's paper), and the derivation of (10 5 12) from it. */
 #define EXAMPLE_TABLE "   10   13   20\n   11    1   12\n   13    2   14\n   14    3   11\n"
 #define EXAMPLE_DERIVATION \
     "    0    0    0   13    2   14\n    0    0    0   10   13   20\n    2    1    2   10   14   20\n" \

@@ -1,4 +1,5 @@
-/* The values of the C interface: document 01's example and cases, every number once, and the parts of a result. */
+/* The values of the C interface: the example and cases of document 01 (the customer's paper), every number once, and the
+ * parts of a result. */
 #include "factbox.h"
 #include "test.h"
 
@@ -8,42 +9,45 @@ static const uint8_t *bytes(const char *text) { return (const uint8_t *)text; }
 
 static uint64_t result(uint64_t number, uint64_t place, uint64_t count) { return number | place << 8 | count << 32; }
 
+/* Questions with their answers. */
+static const struct {
+    const char *table;
+    uint32_t s, p, o, limit, number, place, count;
+} CASES[] = {
+    {"", 10, 1, 11, 4, FACTBOX_NO, 0, 0},
+    {EXAMPLE_TABLE, 10, 5, 12, 4, FACTBOX_YES, 0, 4},
+    {EXAMPLE_TABLE, 10, 5, 12, 3, FACTBOX_LONG, 0, 4},
+    {EXAMPLE_TABLE, 10, 5, 12, 0, FACTBOX_LONG, 0, 4},
+    {EXAMPLE_TABLE, 10, 14, 20, 4, FACTBOX_YES, 0, 2},
+    {EXAMPLE_TABLE, 12, 1, 12, 4, FACTBOX_NO, 0, 0},
+    {"   10    1   11\n   11    1   10\n", 10, 1, 10, 4, FACTBOX_YES, 0, 2},
+    {EXAMPLE_TABLE, 13, 3, 11, 4, FACTBOX_NO, 0, 0},
+    {"    6    7    8\n    7    240000\n40000    2    9\n", 6, 9, 8, 4, FACTBOX_YES, 0, 3},
+    {"    6    7    8\n    7    240000\n40000    3    9\n", 6, 5, 9, 4, FACTBOX_NO, 0, 0},
+    {"    6    5   10\n    6    7    8\n    7    3   10\n", 6, 5, 10, 4, FACTBOX_YES, 0, 1},
+    {"   10    1   11\n   10    1   11\n", 10, 1, 11, 4, FACTBOX_ORDER, 2, 0},
+    {EXAMPLE_TABLE, 5, 1, 10, 4, FACTBOX_PART, 0, 0},
+    {"   1039999   11\n", 10, 39999, 11, 4, FACTBOX_YES, 0, 1},
+    {"   1040000   11\n", 10, 39999, 11, 4, FACTBOX_PART, 1, 0},
+    {"   10    159999\n", 10, 1, 59999, 4, FACTBOX_YES, 0, 1},
+    {"   10    160000\n", 10, 1, 59999, 4, FACTBOX_BLANK, 1, 0},
+    {"   10    165536\n", 10, 1, 59999, 4, FACTBOX_TERM, 1, 0},
+    {EXAMPLE_TABLE, 10, 40000, 11, 4, FACTBOX_PART, 0, 0},
+    {EXAMPLE_TABLE, 10, 1, 60000, 4, FACTBOX_BLANK, 0, 0},
+    {EXAMPLE_TABLE, 10, 1, 65536, 4, FACTBOX_TERM, 0, 0},
+    {EXAMPLE_TABLE, 10, 5, 65536 + 12, 4, FACTBOX_TERM, 0, 0},
+    {"   10   13   2\n", 10, 5, 12, 4, FACTBOX_SIZE, 0, 0},
+    {"   10   13  020\n", 10, 5, 12, 4, FACTBOX_COLUMN, 1, 0},
+    {EXAMPLE_TABLE, 10, 5, 12, 1025, FACTBOX_ALLOWANCE, 0, 0},
+    {EXAMPLE_TABLE, 10, 5, 12, 5, FACTBOX_SHORT, 0, 0},
+};
+
 static void cases(void) {
-    static const struct {
-        const char *table;
-        uint32_t s, p, o, limit, number, place, count;
-    } all[] = {
-        {"", 10, 1, 11, 4, FACTBOX_NO, 0, 0},
-        {EXAMPLE_TABLE, 10, 5, 12, 4, FACTBOX_YES, 0, 4},
-        {EXAMPLE_TABLE, 10, 5, 12, 3, FACTBOX_LONG, 0, 4},
-        {EXAMPLE_TABLE, 10, 5, 12, 0, FACTBOX_LONG, 0, 4},
-        {EXAMPLE_TABLE, 10, 14, 20, 4, FACTBOX_YES, 0, 2},
-        {EXAMPLE_TABLE, 12, 1, 12, 4, FACTBOX_NO, 0, 0},
-        {"   10    1   11\n   11    1   10\n", 10, 1, 10, 4, FACTBOX_YES, 0, 2},
-        {EXAMPLE_TABLE, 13, 3, 11, 4, FACTBOX_NO, 0, 0},
-        {"    6    7    8\n    7    240000\n40000    2    9\n", 6, 9, 8, 4, FACTBOX_YES, 0, 3},
-        {"    6    7    8\n    7    240000\n40000    3    9\n", 6, 5, 9, 4, FACTBOX_NO, 0, 0},
-        {"    6    5   10\n    6    7    8\n    7    3   10\n", 6, 5, 10, 4, FACTBOX_YES, 0, 1},
-        {"   10    1   11\n   10    1   11\n", 10, 1, 11, 4, FACTBOX_ORDER, 2, 0},
-        {EXAMPLE_TABLE, 5, 1, 10, 4, FACTBOX_PART, 0, 0},
-        {"   1039999   11\n", 10, 39999, 11, 4, FACTBOX_YES, 0, 1},
-        {"   1040000   11\n", 10, 39999, 11, 4, FACTBOX_PART, 1, 0},
-        {"   10    159999\n", 10, 1, 59999, 4, FACTBOX_YES, 0, 1},
-        {"   10    160000\n", 10, 1, 59999, 4, FACTBOX_BLANK, 1, 0},
-        {"   10    165536\n", 10, 1, 59999, 4, FACTBOX_TERM, 1, 0},
-        {EXAMPLE_TABLE, 10, 40000, 11, 4, FACTBOX_PART, 0, 0},
-        {EXAMPLE_TABLE, 10, 1, 60000, 4, FACTBOX_BLANK, 0, 0},
-        {EXAMPLE_TABLE, 10, 1, 65536, 4, FACTBOX_TERM, 0, 0},
-        {EXAMPLE_TABLE, 10, 5, 65536 + 12, 4, FACTBOX_TERM, 0, 0},
-        {"   10   13   2\n", 10, 5, 12, 4, FACTBOX_SIZE, 0, 0},
-        {"   10   13  020\n", 10, 5, 12, 4, FACTBOX_COLUMN, 1, 0},
-        {EXAMPLE_TABLE, 10, 5, 12, 1025, FACTBOX_ALLOWANCE, 0, 0},
-        {EXAMPLE_TABLE, 10, 5, 12, 5, FACTBOX_SHORT, 0, 0},
-    };
-    for (size_t i = 0; i < sizeof all / sizeof *all; i++) {
+    for (size_t i = 0; i < sizeof CASES / sizeof *CASES; i++) {
         uint8_t output[31 * 7];
-        uint64_t r = factbox_question(bytes(all[i].table), strlen(all[i].table), all[i].s, all[i].p, all[i].o, all[i].limit, output, sizeof output);
-        if (r != result(all[i].number, all[i].place, all[i].count)) {
+        uint64_t r = factbox_question(bytes(CASES[i].table), strlen(CASES[i].table), CASES[i].s, CASES[i].p, CASES[i].o,
+                                      CASES[i].limit, output, sizeof output);
+        if (r != result(CASES[i].number, CASES[i].place, CASES[i].count)) {
             fprintf(stderr, "case %zu: %u place %u count %u\n", i, factbox_number(r), factbox_place(r), factbox_count(r));
             failures++;
         }

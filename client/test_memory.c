@@ -1,9 +1,8 @@
 /* The memory of the C interface: empty slices, NULL with length 0, any alignment, and buffers that begin or end at a page
- * that may not be touched. Inputs lie on pages that may not be written. And the stack that a call takes. */
+ * that may not be touched. Inputs lie on pages that may not be written. */
 #include "factbox.h"
 #include "test.h"
 
-#include <pthread.h>
 #include <stdlib.h>
 #include <string.h>
 #include <sys/mman.h>
@@ -123,40 +122,6 @@ static void placed(uint32_t facts, int at_end, size_t shift) {
     EXPECT(memcmp(out, table, bytes) == 0 && untouched(output, out, bytes));
 }
 
-/* The calls on a full table, one at a time. */
-static void *call(void *which) {
-    static uint8_t table[FACTBOX_TABLE_MAX], lines[FACTBOX_DERIVATION_MAX];
-    static uint32_t row[FACTBOX_ROW_MAX];
-    for (uint32_t i = 0; i < FACTBOX_FACTS_MAX; i++) row[3 * i] = 6 + i, row[3 * i + 1] = 1, row[3 * i + 2] = 7 + i;
-    switch (*(int *)which) {
-    case 0: break;
-    case 1: factbox_write(row, FACTBOX_ROW_MAX, table, sizeof table); break;
-    case 2: factbox_read(table, sizeof table, row, FACTBOX_ROW_MAX); break;
-    case 3: factbox_question(table, sizeof table, 6, 1, 1030, 1024, lines, sizeof lines); break;
-    default: factbox_check(table, sizeof table, 6, 1, 1030, lines, sizeof lines); break;
-    }
-    return NULL;
-}
-
-/* How much of a thread's stack a call writes, beyond what a thread that calls nothing does. */
-static void stack(void) {
-    enum { STACK = 1 << 20, MARK = 0xa5 };
-    size_t idle = 0;
-    for (int which = 0; which <= 4; which++) {
-        uint8_t *memory = mmap(NULL, STACK, PROT_READ | PROT_WRITE, MAP_PRIVATE | MAP_ANONYMOUS, -1, 0);
-        memset(memory, MARK, STACK);
-        pthread_attr_t attributes;
-        pthread_t thread;
-        EXPECT(pthread_attr_init(&attributes) == 0 && pthread_attr_setstack(&attributes, memory, STACK) == 0);
-        EXPECT(pthread_create(&thread, &attributes, call, &which) == 0 && pthread_join(thread, NULL) == 0);
-        size_t spare = 0;
-        while (spare < STACK && memory[spare] == MARK) spare++;
-        if (which == 0) idle = STACK - spare;
-        EXPECT(STACK - spare <= idle + FACTBOX_STACK_MAX);
-        munmap(memory, STACK);
-    }
-}
-
 int main(void) {
     static const uint32_t sizes[] = {0, 1, 2, 3, 7, 64, 1023, 1024};
     guard_page_faults();
@@ -165,6 +130,5 @@ int main(void) {
         placed(sizes[i], 1, 0);
         for (size_t shift = 0; shift < 16; shift++) placed(sizes[i], 0, shift);
     }
-    stack();
     return finish("test_memory");
 }

@@ -1,0 +1,156 @@
+/* What is probably wrong with a table that the box refuses: see fault.h.
+ *
+ * Refusal 1 has no place: its line is the first that is not 16 bytes long, or line 1,025. Refusals 2 to 6 have a place. As
+ * every line above it is 16 bytes long, it is the line that a person counts. */
+#include "fault.h"
+#include "factbox.h"
+#include "lines.h"
+#include "words.h"
+
+#include <string.h>
+
+enum { COLUMNS = FACTBOX_TABLE_LINE - 1 };
+
+/* A line of the file, without its line end. */
+typedef struct {
+    const char *text;
+    size_t len;
+    unsigned number;
+    int ended;              /* it has a line end */
+} line;
+
+static line line_at(const uint8_t *table, size_t len, size_t start, unsigned number) {
+    const char *text = (const char *)table + start, *end = memchr(text, '\n', len - start);
+    return (line){text, end ? (size_t)(end - text) : len - start, number, end != NULL};
+}
+
+/* The first line that is not 16 bytes long, or the first above 1,024. */
+static line first_odd_line(const uint8_t *table, size_t len) {
+    line r = line_at(table, len, 0, 1);
+    for (size_t start = 0; r.number <= FACTBOX_FACTS_MAX && r.len == COLUMNS && r.ended;) {
+        start += FACTBOX_TABLE_LINE;
+        r = line_at(table, len, start, r.number + 1);
+    }
+    return r;
+}
+
+/* The first column that is not as laid out, counted from 1; the line end's is 16. */
+static size_t wrong_column(const line *r) {
+    for (size_t c = 0; c < COLUMNS; c++) {
+        int last = c % FIELD_COLUMNS == FIELD_COLUMNS - 1, behind_digit = c % FIELD_COLUMNS > 0 && is_digit(r->text[c - 1]);
+        if (c == r->len) return c + 1;
+        if (!is_digit(r->text[c]) && (r->text[c] != ' ' || behind_digit || last)) return c + 1;
+        if (r->text[c] == '0' && !behind_digit && !last && c + 1 < r->len && is_digit(r->text[c + 1])) return c + 1;
+    }
+    return COLUMNS + 1;
+}
+
+/* A byte that no table has: NULL if the line has none. */
+static const char *byte_cause(const line *r) {
+    const char *comment = memchr(r->text, '#', r->len), *cr = memchr(r->text, '\r', r->len);
+    if (r->number == 1 && mark_length(r->text, r->len)) return "a byte order mark before the first number";
+    if (r->number == 1 && r->len >= 2 && (!memcmp(r->text, "\xff\xfe", 2) || !memcmp(r->text, "\xfe\xff", 2)))
+        return "the file is UTF-16 text: a table is plain ASCII";
+    if (memchr(r->text, '\0', r->len)) return "a NUL byte (byte 0): the file is no plain text";
+    if (comment) return trimmed(r->text, r->len) == 0 ? "a comment: a table has facts only" : "a comment behind the fact";
+    if (cr) return r->ended && cr == r->text + r->len - 1 ? "a carriage return before the line end (Windows line ends)"
+                                                          : "a carriage return: a line ends with a line feed";
+    if (memchr(r->text, '\t', r->len)) return "a tab: fields are padded with spaces";
+    for (size_t i = 0; i < r->len; i++)
+        if (!is_digit(r->text[i]) && r->text[i] != ' ') return "text that is no number";
+    return NULL;
+}
+
+/* A field that is not as laid out, in a line of digits and spaces that has its 16 bytes. */
+static const char *field_cause(const line *r, size_t column) {
+    static char text[128];
+    size_t field = (column - 1) / FIELD_COLUMNS, first = FIELD_COLUMNS * field;
+    const char *what = r->text[column - 1] == '0' ? "begins with a 0" : "is missing";
+    for (size_t c = first; c < column - 1; c++)
+        if (is_digit(r->text[c])) what = "does not stand at the right of its columns";
+    snprintf(text, sizeof text, "the %s (columns %zu to %zu) %s", FIELD_NAMES[field], first + 1, first + FIELD_COLUMNS, what);
+    return text;
+}
+
+unsigned fact_refusal(const uint32_t *fact) {
+    uint8_t written[FACTBOX_TABLE_LINE];
+    return factbox_number(factbox_write(fact, 3, written, sizeof written));
+}
+
+/* Why a line of digits and spaces has not its 16 bytes. */
+static const char *length_cause(const line *r) {
+    static char text[320];
+    uint32_t fact[3];
+    size_t len = trimmed(r->text, r->len);
+    const char *why = line_fields(r->text, len, 3, fact);
+    int laid_out = len == COLUMNS && wrong_column(&(line){r->text, len, r->number, 1}) > COLUMNS;
+    if (laid_out && len < r->len) return "spaces at the end of the line";
+    if (laid_out) return "the last line has no line end";
+    if (!why && fact_refusal(fact)) return fact_fault(fact_refusal(fact), fact);
+    if (!why) return "the numbers are not padded to five columns each";
+    snprintf(text, sizeof text, "%s%s", why, r->ended ? "" : "; the file ends within the line");
+    return text;
+}
+
+/* Whether `table` takes the line as it stands. */
+static int can_be_mended(const line *r) {
+    uint32_t fact[3];
+    size_t mark = r->number == 1 ? mark_length(r->text, r->len) : 0, len = trimmed(r->text + mark, r->len - mark);
+    return len == 0 || (!line_fields(r->text + mark, len, 3, fact) && !fact_refusal(fact));
+}
+
+static void show_line(FILE *out, const line *r) { fprintf(out, "  line %-5u %s\n", r->number, quoted(r->text, r->len)); }
+
+/* The fields of a line that is laid out. */
+static void line_fact(const line *r, uint32_t *fact) {
+    for (size_t i = 0; i < 3; i++) layout_field(r->text + FIELD_COLUMNS * i, &fact[i]);
+}
+
+/* Refusals 1 and 2: where the line's layout breaks, and why. */
+static void explain_layout(FILE *out, const char *name, const line *r) {
+    size_t column = wrong_column(r);
+    const char *why = byte_cause(r);
+    int blank = trimmed(r->text, r->len) == 0;
+    if (r->number > FACTBOX_FACTS_MAX && !blank) {
+        fprintf(out, "  a table has at most 1,024 lines\n");
+        return;
+    }
+    if (!why && blank) why = "a blank line";
+    if (!why) why = r->len == COLUMNS && r->ended ? field_cause(r, column) : length_cause(r);
+    fprintf(out, "  column %zu: %s\n", column, why);
+    if (can_be_mended(r)) fprintf(out, "  `table` takes such lines: table -o NEW %s\n", name);
+}
+
+/* Refusal 6: whether the two lines are the same, and where not. */
+static void explain_order(FILE *out, const char *name, const line *before, const line *r) {
+    uint32_t above[3], fact[3];
+    size_t i = 0;
+    line_fact(before, above);
+    line_fact(r, fact);
+    while (i < 3 && fact[i] == above[i]) i++;
+    if (i == 3) fprintf(out, "  the same fact as on line %u\n", before->number);
+    else
+        fprintf(out, "  below line %u: its %s is %u, that of line %u is %u\n", before->number, FIELD_NAMES[i],
+                (unsigned)fact[i], before->number, (unsigned)above[i]);
+    fprintf(out, "  `table` sorts lines and drops repeats: table -o NEW %s\n", name);
+}
+
+void explain_table(FILE *out, const char *name, const uint8_t *table, size_t len, uint64_t result) {
+    unsigned number = factbox_number(result), place = factbox_place(result);
+    uint32_t fact[3];
+    line r, before;
+    if (number == FACTBOX_SIZE) r = first_odd_line(table, len);
+    else r = line_at(table, len, (size_t)FACTBOX_TABLE_LINE * (place - 1), place);
+    fprintf(out, "%s:%u: %u %s\n", name, r.number, number, refusal_words(number));
+    if (number == FACTBOX_ORDER) {
+        before = line_at(table, len, (size_t)FACTBOX_TABLE_LINE * (place - 2), place - 1);
+        show_line(out, &before);
+    }
+    show_line(out, &r);
+    if (number == FACTBOX_ORDER) explain_order(out, name, &before, &r);
+    else if (number <= FACTBOX_COLUMN) explain_layout(out, name, &r);
+    else {
+        line_fact(&r, fact);
+        fprintf(out, "  %s\n", fact_fault(number, fact));
+    }
+}

@@ -1,0 +1,127 @@
+/* Lines that a person writes, read from a file: see lines.h. */
+#include "lines.h"
+#include "words.h"
+
+#include <errno.h>
+#include <string.h>
+
+/* What went wrong last. */
+static char wrong[320];
+
+int is_digit(char c) { return c >= '0' && c <= '9'; }
+
+static int is_separator(char c) { return c == ' ' || c == '\t' || c == ',' || c == ';'; }
+
+static FILE *open_file(const char *name) {
+    FILE *file = fopen(name, "rb");
+    if (!file) fail(strerror(errno), name);
+    return file;
+}
+
+lines open_lines(const char *name) {
+    return (lines){.file = name ? open_file(name) : stdin, .name = name ? name : "standard input"};
+}
+
+size_t mark_length(const char *text, size_t len) { return len >= 3 && memcmp(text, "\xef\xbb\xbf", 3) == 0 ? 3 : 0; }
+
+size_t trimmed(const char *text, size_t len) {
+    const char *comment = memchr(text, '#', len);
+    if (comment) len = (size_t)(comment - text);
+    while (len > 0 && (is_separator(text[len - 1]) || text[len - 1] == '\r')) len--;
+    return len;
+}
+
+/* Reads one line: its first TEXT_MAX bytes, and its whole length. 0 at the file's end. */
+static int read_line(lines *in) {
+    int c;
+    in->len = 0;
+    while ((c = getc(in->file)) != EOF && c != '\n') {
+        if (in->len < TEXT_MAX) in->text[in->len] = (char)c;
+        in->len++;
+    }
+    if (ferror(in->file)) fail("can't be read", in->name);
+    in->line++;
+    return c != EOF || in->len > 0;
+}
+
+int next_line(lines *in) {
+    do {
+        if (!read_line(in)) {
+            if (in->file != stdin) fclose(in->file);
+            return 0;
+        }
+        size_t kept = in->len < TEXT_MAX ? in->len : TEXT_MAX;
+        size_t mark = in->line == 1 ? mark_length(in->text, kept) : 0;
+        memmove(in->text, in->text + mark, kept - mark);
+        if (in->len <= TEXT_MAX || memchr(in->text, '#', kept - mark)) in->len = trimmed(in->text, kept - mark);
+    } while (in->len == 0);
+    return 1;
+}
+
+/* A decimal number of 32 bits: NULL, or why it is none. */
+static const char *decimal(const char *text, size_t len, uint32_t *value) {
+    uint64_t n = 0;
+    for (size_t i = 0; i < len; i++) {
+        if (!is_digit(text[i])) return "is no number";
+        if (n <= UINT32_MAX) n = 10 * n + (uint64_t)(text[i] - '0');
+    }
+    if (len == 0 || n > UINT32_MAX) return len == 0 ? "is no number" : "is too large";
+    *value = (uint32_t)n;
+    return NULL;
+}
+
+const char *field_value(const char *text, size_t len, int predicate, uint32_t *value) {
+    uint32_t vocabulary = predicate_number(text, len);
+    const char *why = decimal(text, len, value);
+    if (!why) return NULL;
+    if (vocabulary && predicate) {
+        *value = vocabulary;
+        return NULL;
+    }
+    if (vocabulary) why = "can only stand in the predicate's place";
+    else if (predicate && !is_digit(*text)) why = "is neither a number nor subclass, subproperty, domain, range or type";
+    snprintf(wrong, sizeof wrong, "%s %s", quoted(text, len), why);
+    return wrong;
+}
+
+int layout_field(const char *text, uint32_t *value) {
+    size_t spaces = 0;
+    while (spaces < FIELD_COLUMNS - 1 && text[spaces] == ' ') spaces++;
+    if (text[spaces] == '0' && spaces < FIELD_COLUMNS - 1) return 0;
+    return !decimal(text + spaces, FIELD_COLUMNS - spaces, value);
+}
+
+/* All fields in the box's layout; 0 if they are not as laid out. */
+static int layout_fields(const char *text, size_t len, size_t count, uint32_t *fields) {
+    if (len != FIELD_COLUMNS * count) return 0;
+    for (size_t i = 0; i < count; i++)
+        if (!layout_field(text + FIELD_COLUMNS * i, &fields[i])) return 0;
+    return 1;
+}
+
+const char *line_fields(const char *text, size_t len, size_t count, uint32_t *fields) {
+    if (len > TEXT_MAX) return "the line is longer than 1,000 bytes";
+    if (memchr(text, '\0', len)) return "the line has a NUL byte (byte 0)";
+    if (layout_fields(text, len, count, fields)) return NULL;
+    size_t found = 0;
+    for (size_t at = 0, end; at < len; at = end) {
+        end = at + 1;
+        if (is_separator(text[at])) continue;
+        while (end < len && !is_separator(text[end])) end++;
+        const char *why = found < count ? field_value(text + at, end - at, found == 1, &fields[found]) : NULL;
+        if (why) return why;
+        found++;
+    }
+    if (found == count) return NULL;
+    snprintf(wrong, sizeof wrong, "%zu field%s: %s", found, plural(found),
+             count == 3 ? "a fact is subject, predicate, object" : "a question is subject, predicate, object, allowance");
+    return wrong;
+}
+
+size_t load(const char *name, uint8_t *bytes, size_t most) {
+    FILE *file = open_file(name);
+    size_t len = fread(bytes, 1, most, file);
+    if (ferror(file)) fail("can't be read", name);
+    fclose(file);
+    return len;
+}

@@ -1,0 +1,53 @@
+/* Lines that a person writes, read from a file.
+ *
+ * A line has fields: numbers, or in the predicate's place one of the words subclass, subproperty, domain, range, type.
+ * Between them stand spaces, tabs, commas or semicolons. A line as the box lays it out, in fields of five columns that may
+ * touch, is read as well. `#` begins a comment. Blank lines, a carriage return before the line end, and a byte order mark
+ * before the first line are passed over. */
+#ifndef LINES_H
+#define LINES_H
+
+#include <stddef.h>
+#include <stdint.h>
+#include <stdio.h>
+
+enum { TEXT_MAX = 1000, FIELD_COLUMNS = 5 };
+
+/* A file, and the line of it that was read last. */
+typedef struct {
+    FILE *file;
+    const char *name;
+    unsigned line;            /* counted from 1 */
+    size_t len;               /* of the text, without comment and line end; above TEXT_MAX for a line that is too long */
+    char text[TEXT_MAX];
+} lines;
+
+/* Opens a file, or standard input for NULL, before its first line. A file that can't be opened ends the program. */
+lines open_lines(const char *name);
+
+/* Goes to the next line that has more than a comment; 0 at the file's end, where the file is closed. A file that can't be
+ * read ends the program. */
+int next_line(lines *in);
+
+/* The `count` fields of a line's text: 3 are a fact's, 4 a question's. Gives NULL, or what is wrong; that holds until the
+ * next call. */
+const char *line_fields(const char *text, size_t len, size_t count, uint32_t *fields);
+
+/* One field; a predicate's may be a word. Gives NULL, or what is wrong; that holds until the next call. */
+const char *field_value(const char *text, size_t len, int predicate, uint32_t *value);
+
+/* The length of a line's text without its comment and what may stand at its end. */
+size_t trimmed(const char *text, size_t len);
+
+/* The length of the byte order mark at the front of a text, 0 or 3. */
+size_t mark_length(const char *text, size_t len);
+
+int is_digit(char c);
+
+/* One field of five columns in the box's layout; 0 if it is not as laid out. */
+int layout_field(const char *text, uint32_t *value);
+
+/* Reads at most `most` bytes of a file. One that can't be read ends the program. */
+size_t load(const char *name, uint8_t *bytes, size_t most);
+
+#endif

@@ -1,0 +1,159 @@
+/* Makes a table for the fact box from lines that a person writes, and prints a table as such lines.
+ *
+ *   table [-o TABLE] [LINES..]     makes one table of all lines of the files (or of standard input)
+ *   table -w [-o LINES] TABLE      prints a table, its predicates in words, as lines that `table` reads again
+ *
+ * A line is one fact, subject, predicate and object, written as lines.h says. The facts are sorted, repeats dropped, the
+ * numbers padded. The result goes to standard output, or to the file named with -o, which may be one of those read.
+ * Standard error has how many facts it is, or, with file and line, each line that can't be taken.
+ *
+ * Exit status: 0 done; 1 a line or the table was refused, and nothing is written or opened for writing; 2 bad usage, a file
+ * that can't be read, or a failed write. */
+#include "factbox.h"
+#include "fault.h"
+#include "lines.h"
+#include "words.h"
+
+#include <errno.h>
+#include <stdlib.h>
+#include <string.h>
+#include <unistd.h>
+
+const char PROGRAM[] = "table";
+
+enum { FAULTS_SHOWN = 20 };
+
+/* A fact and the line that it was first read from. */
+typedef struct {
+    uint32_t fact[3];
+    const char *name;
+    unsigned line;
+} entry;
+
+/* The facts so far, ascending, each once. */
+static entry entries[FACTBOX_FACTS_MAX];
+static size_t count, repeats, faults;
+
+/* The result, ready to be written out; a line in words has 24 bytes. */
+static uint8_t result[24 * FACTBOX_FACTS_MAX + 1];
+
+/* Says what is wrong with a line. After many, the rest is not read. */
+static void complain(const char *name, unsigned line, const char *what) {
+    fprintf(stderr, "%s:%u: %s\n", name, line, what);
+    if (++faults < FAULTS_SHOWN) return;
+    fprintf(stderr, "table: %d lines can't be taken, the rest was not read\n", FAULTS_SHOWN);
+    exit(1);
+}
+
+/* Says that the box refuses a fact, which one of its fields earns that, and where it was read. */
+static void complain_refused(const entry *e, unsigned number) {
+    char text[256];
+    const char *field = fact_fault(number, e->fact);
+    snprintf(text, sizeof text, "%u %s%s%s", number, refusal_words(number), *field ? ": " : "", field);
+    complain(e->name, e->line, text);
+}
+
+static int compare(const uint32_t *a, const uint32_t *b) {
+    size_t i = 0;
+    while (i < 2 && a[i] == b[i]) i++;
+    return (a[i] > b[i]) - (a[i] < b[i]);
+}
+
+/* Puts the fact at its place, unless it is there. */
+static void insert(const entry *e) {
+    size_t low = 0, high = count;
+    while (low < high) {
+        size_t middle = (low + high) / 2;
+        if (compare(entries[middle].fact, e->fact) < 0) low = middle + 1;
+        else high = middle;
+    }
+    if (low < count && compare(entries[low].fact, e->fact) == 0) {
+        repeats++;
+        return;
+    }
+    if (count == FACTBOX_FACTS_MAX) {
+        complain(e->name, e->line, "one different fact too many: a table has at most 1,024");
+        exit(1);
+    }
+    memmove(&entries[low + 1], &entries[low], (count - low) * sizeof *entries);
+    entries[low] = *e;
+    count++;
+}
+
+/* Takes every line of a file. The box itself judges each fact. */
+static void take(lines in) {
+    while (next_line(&in)) {
+        entry e = {.name = in.name, .line = in.line};
+        const char *wrong = line_fields(in.text, in.len, 3, e.fact);
+        if (wrong) complain(in.name, in.line, wrong);
+        else if (fact_refusal(e.fact)) complain_refused(&e, fact_refusal(e.fact));
+        else insert(&e);
+    }
+}
+
+/* Ends the program if the box did not take the whole. */
+static void demand_done(uint64_t answer) {
+    unsigned place = factbox_place(answer);
+    if (factbox_number(answer) == FACTBOX_DONE) return;
+    complain_refused(&entries[place > 0 && place <= count ? place - 1 : 0], factbox_number(answer));
+    exit(1);
+}
+
+/* The facts as a table, which the box has read without a refusal; its length. */
+static size_t make(void) {
+    static uint32_t row[FACTBOX_ROW_MAX];
+    size_t len = count * FACTBOX_TABLE_LINE;
+    for (size_t i = 0; i < count; i++) memcpy(&row[3 * i], entries[i].fact, sizeof entries[i].fact);
+    demand_done(factbox_write(row, 3 * count, result, sizeof result));
+    demand_done(factbox_read(result, len, row, FACTBOX_ROW_MAX));
+    return len;
+}
+
+/* A table's facts as lines with words; their length. */
+static size_t in_words(const char *name) {
+    static uint8_t table[TABLE_LOOK];
+    static uint32_t row[FACTBOX_ROW_MAX];
+    size_t table_len = load(name, table, sizeof table), len = 0;
+    uint64_t answer = factbox_read(table, table_len, row, FACTBOX_ROW_MAX);
+    if (factbox_number(answer) != FACTBOX_DONE) {
+        explain_table(stderr, name, table, table_len, answer);
+        exit(1);
+    }
+    for (const uint32_t *f = row; f < row + 3 * factbox_count(answer); f += 3)
+        len += (size_t)snprintf((char *)result + len, sizeof result - len, "%5u %-11s %5u\n", (unsigned)f[0],
+                                predicate_word(f[1]), (unsigned)f[2]);
+    return len;
+}
+
+/* Writes the result out. If that fails, what was written is no table. */
+static void put_out(const char *name, size_t len) {
+    FILE *out = name ? fopen(name, "wb") : stdout;
+    if (!name) name = "standard output";
+    if (!out) fail(strerror(errno), name);
+    int short_write = fwrite(result, 1, len, out) != len;
+    if (fclose(out) || short_write) fail("can't be written", name);
+}
+
+int main(int argc, char **argv) {
+    const char *out = NULL;
+    int reverse = 0, wrong = 0;
+    for (int option; (option = getopt(argc, argv, "wo:")) != -1;) {
+        if (option == 'w') reverse = 1;
+        else if (option == 'o') out = optarg;
+        else wrong = 1;
+    }
+    if (wrong || (reverse && argc - optind != 1)) {
+        fputs("usage: table [-o TABLE] [LINES..]\n       table -w [-o LINES] TABLE\n", stderr);
+        return 2;
+    }
+    if (reverse) {
+        put_out(out, in_words(argv[optind]));
+        return 0;
+    }
+    if (optind == argc) take(open_lines(NULL));
+    for (int i = optind; i < argc; i++) take(open_lines(argv[i]));
+    if (faults > 0) return 1;
+    put_out(out, make());
+    fprintf(stderr, "table: %zu fact%s, %zu repeat%s dropped\n", count, plural(count), repeats, plural(repeats));
+    return 0;
+}

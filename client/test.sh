@@ -1,0 +1,34 @@
+# What the tests of the programs share; they set `name` first. A sanitizer's report ends with 99, so that it is no refusal.
+set -eu
+export ASAN_OPTIONS="${ASAN_OPTIONS-}:exitcode=99" UBSAN_OPTIONS="${UBSAN_OPTIONS-}:exitcode=99"
+cd "$(dirname "$0")"
+work=$(mktemp -d)
+trap 'rm -rf "$work"' EXIT
+DAMAGES=300
+
+stop() {
+    echo "$name: $*"
+    exit 1
+}
+
+# run STATUS COMMAND..: the command ends with this status; what it writes is in $work/out and $work/err
+run() {
+    status=$1 found=0
+    shift
+    "$@" >"$work/out" 2>"$work/err" </dev/null || found=$?
+    [ "$found" = "$status" ] || { cat "$work/out" "$work/err"; stop "$*: status $found, not $status"; }
+}
+
+# expect STATUS FILE COMMAND..: its status, and what it writes, errors behind the rest
+expect() {
+    expected=$2 status=$1
+    shift 2
+    run "$status" "$@"
+    cat "$work/out" "$work/err" >"$work/all"
+    diff "$expected" "$work/all" || stop "$*: writes something else than $expected"
+}
+
+# says FILE TEXT: one line of it has exactly this text, spaces before it apart
+says() {
+    sed 's/^ *//' "$1" | grep -Fxq -- "$2" || { cat "$1"; stop "does not say: $2"; }
+}

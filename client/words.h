@@ -1,0 +1,35 @@
+/* Words that the C programs share: predicates, refusals, and which field of a fact earns one. */
+#ifndef WORDS_H
+#define WORDS_H
+
+#include <stddef.h>
+#include <stdint.h>
+
+/* Each program's own name, for its messages. */
+extern const char PROGRAM[];
+
+/* "subject", "predicate", "object". */
+extern const char *const FIELD_NAMES[3];
+
+/* Says on standard error what is wrong with the thing named, and ends the program with status 2. */
+_Noreturn void fail(const char *what, const char *name);
+
+/* A predicate of the vocabulary as its word, any other as its number. The text holds until the next call. */
+const char *predicate_word(uint32_t predicate);
+
+/* The number of a vocabulary word of `len` bytes; 0 for any other word. */
+uint32_t predicate_number(const char *word, size_t len);
+
+/* What a refusal means: its word, then a sentence. */
+const char *refusal_words(unsigned number);
+
+/* Which field of the fact earns refusal 3, 4 or 5, and why. The text holds until the next call. */
+const char *fact_fault(unsigned number, const uint32_t *fact);
+
+/* Text of `len` bytes in quotation marks, so that every byte can be seen; the rest of a long one is left out. The text holds
+ * until the next call. */
+const char *quoted(const char *text, size_t len);
+
+const char *plural(size_t n);
+
+#endif
