@@ -34,10 +34,15 @@ tools-installed:
 check-trace:
 	@tools/check-trace
 
-# The proved library and program, as C and the tests use them.
+# The proved library and program, as C and the tests use them. The prover's own lines go to a log, which is shown if it fails.
 built:
-	@rt staticlib entail
-	rt check factbox
+	@mkdir -p target
+	echo "Proving and building; the prover's lines go to target/built.log"
+	{ rt staticlib entail && rt check factbox; } >target/built.log 2>&1 || {
+	    cat target/built.log
+	    echo 'make built: failed; this was target/built.log'
+	    exit 1
+	}
 
 # The compiled library and program, called from C and from Rust.
 host: built
@@ -45,8 +50,14 @@ host: built
 	$(MAKE) --no-print-directory -C tests test
 
 demo: built
-	@target/bin/factbox < crates/factbox/stdin
-	$(MAKE) --no-print-directory -C client demo
+	@echo
+	echo "== The program on the example of document 01, the customer's paper: target/bin/factbox < crates/factbox/stdin"
+	echo '   A table, a line of zeros, and one question: subject, predicate, object, allowance.'
+	cat crates/factbox/stdin
+	echo
+	echo '== Its answer: 90 (yes), place 0, 4 table facts; then the derivation: rule, two premises, subject, predicate, object.'
+	target/bin/factbox < crates/factbox/stdin
+	$(MAKE) --no-print-directory -s -C client demo
 
 bench: built
 	@$(MAKE) --no-print-directory -C bench test bench REPORT=../docs
