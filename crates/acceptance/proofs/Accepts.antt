@@ -36,10 +36,10 @@ use Rattle.table.proofs.Tables.{tableOf-accepted, terms-below}
 use Rattle.rules.specs.declared.Line.{Line}
 use Rattle.rules.specs.Graph.{_∈_}
 use Rattle.rules.specs.Rules.{Gives, sp-sp, sp-data, sc-sc, sc-type, dom-data, range-data, Rule}
-use Rattle.rules.specs.Derivations.{Relation, line, factOn, Justified, by-table, by-rule, Justify, Derives, tableLines}
+use Rattle.rules.specs.Derivations.{Relation, derivationLine, factOn, Justified, by-table, by-rule, Justify, Derives, tableLines}
 use Rattle.rules.specs.Steps.{same, justified}
 use Rattle.rules.proofs.Steps.{same-eq, same-self, justified-is, justified-says}
-use Rattle.derivation.specs.Bytes.{numbers, derivationBytes, lineAt}
+use Rattle.derivation.specs.Bytes.{lineNumbers, derivationBytes, lineAt}
 use Rattle.derivation.proofs.Bytes.{derivation-length, derivation-written, line-read-back}
 use Rattle.acceptance.specs.Check.{linesOf, formVerdict, stepVerdict, after, endAnswer, linesAnswer, derivationAnswer, factAnswer, tableAnswer, checkAnswer, DerivationOf, Judges}
 use Rattle.acceptance.proofs.Lines.{fact-there}
@@ -88,7 +88,7 @@ rule-below sc-type = omega arith
 rule-below dom-data = omega arith
 rule-below range-data = omega arith
 
-justified-below : {table : List Fact} {before : List Line} {l : Line} → ((f : Fact) → f ∈ table → T (wellFormed f)) → length before ≤ 2047 → Justified Rule table before l → Below (numbers l)
+justified-below : {table : List Fact} {before : List Line} {l : Line} → ((f : Fact) → f ∈ table → T (wellFormed f)) → length before ≤ 2047 → Justified Rule table before l → Below (lineNumbers l)
 unfolding Below
 justified-below wf h (by-table {f} m) = (omega arith, (omega arith, (omega arith, terms-below f (wf f m))))
 justified-below {before = before} wf h (by-rule {n} {i} {j} {p} {q} {r} e g s) =
@@ -164,7 +164,7 @@ unfolding linesAnswer after
 lines-are facts t d wf pos few derives =
     let x = derivationBytes d in
     let n = length d in
-    let z = line 0 0 0 (fact 0 0 0) in
+    let z = derivationLine 0 0 0 (fact 0 0 0) in
     let just : (i : ℕ) → i < n → Justified Rule facts (take i d) (getD d i z) = λ i h. justify-at Rule facts d [] z (derives .lines) i h in
     let back : (i : ℕ) → i < n → (laidOut 6 x (31 * i) ≡ true) × (lineAt x i ≡ getD d i z) =
     λ i h. line-read-back d i z h (justified-below wf (rw length-take (omega arith)) (just i h)) in
@@ -206,5 +206,5 @@ check-judges b t x facts is w n =
     (λ e. a .0 (told-accepted e), λ j. ap codeOf (a .1 j))
 
 -- the check's answer, with what it means
-pub judged : (b : List ℕ) (t : Fact) (x : List ℕ) (a : Answer) → a ≡ checkAnswer b t x → (a ≡ checkAnswer b t x) × Judges b t x (codeOf a)
-judged b t x a e = (e, rw e (check-judges b t x))
+pub check-told : (b : List ℕ) (t : Fact) (x : List ℕ) (a : Answer) → a ≡ checkAnswer b t x → (a ≡ checkAnswer b t x) × Judges b t x (codeOf a)
+check-told b t x a e = (e, rw e (check-judges b t x))

@@ -19,7 +19,7 @@ use Rattle.rules.specs.Graph.{_∈_, any}
 use Rattle.rules.specs.Steps.{same}
 use Rattle.rules.proofs.Tests.{any-in, in-any}
 use Rattle.rules.proofs.Steps.{same-eq, same-self}
-use Rattle.acceptance.specs.Holds.{rowFacts, Ascends, Cut}
+use Rattle.acceptance.specs.Holds.{rowFacts, Ascends, FactCut}
 
 -- ---- items by their places
 
@@ -64,7 +64,7 @@ module _ (row : List ℕ) (n : ℕ) (a : Ascends row n) where
   above-cut f m t k l h u = t (below-cut f k h u m (omega arith))
 
   -- a fact of the row stands right at the cut
-  at-cut : (f : Fact) (r : ℕ) → Cut row n f r → T (any (same f) (rowFacts row n)) → (r < n) × (f ≡ rowFact row r)
+  at-cut : (f : Fact) (r : ℕ) → FactCut row n f r → T (any (same f) (rowFacts row n)) → (r < n) × (f ≡ rowFact row r)
   at-cut f r c t =
       let x = any-in (same f) (rowFacts row n) t in
       let y = in-items (rowFact row) n 0 (x .1) in
@@ -76,10 +76,10 @@ module _ (row : List ℕ) (n : ℕ) (a : Ascends row n) where
       go k h e (no p) (yes q) = let b : T (before (rowFact row r) f) = rw e (in-order k r q h) in absurd (c .above r (omega arith) (omega arith) b)
       go k h e (no p) (no q) = let i : k ≡ r = omega arith in (omega arith, rw (← i) e)
 
-  pub holds-none : (f : Fact) (r : ℕ) → Cut row n f r → n ≤ r → false ≡ any (same f) (rowFacts row n)
+  pub holds-none : (f : Fact) (r : ℕ) → FactCut row n f r → n ≤ r → false ≡ any (same f) (rowFacts row n)
   holds-none f r c h = by-cases (any (same f) (rowFacts row n)) (λ e. absurd (omega (arith, at-cut f r c (T-of _ e) .0))) (λ e. sym e)
 
-  pub holds-here : (f : Fact) (r : ℕ) → Cut row n f r → r < n → same f (rowFact row r) ≡ any (same f) (rowFacts row n)
+  pub holds-here : (f : Fact) (r : ℕ) → FactCut row n f r → r < n → same f (rowFact row r) ≡ any (same f) (rowFacts row n)
   holds-here f r c h =
       by-cases (any (same f) (rowFacts row n))
       (λ e. rw e (of-T _ (rw (← at-cut f r c (T-of _ e) .1) (same-self f))))

@@ -20,7 +20,7 @@ pub record Ascends (row : List ℕ) (n : ℕ) : Type 0 where
   pub ascends : (i : ℕ) → suc i < n → T (before (rowFact row i) (rowFact row (suc i)))
 
 -- the facts below r come before f, and the others do not
-pub record Cut (row : List ℕ) (n : ℕ) (f : Fact) (r : ℕ) : Type 0 where
+pub record FactCut (row : List ℕ) (n : ℕ) (f : Fact) (r : ℕ) : Type 0 where
   pub within : r ≤ n
   pub below : (i : ℕ) → i < r → T (before (rowFact row i) f)
   pub above : (i : ℕ) → r ≤ i → i < n → T (before (rowFact row i) f) → ⊥

@@ -20,10 +20,9 @@ use Rattle.facts.specs.declared.Verdict.{Verdict}
 use Rattle.facts.specs.declared.Verdict.the-variants.{Sound, Faulty}
 use Rattle.facts.specs.declared.Answer.{Answer}
 use Rattle.facts.specs.declared.Answer.the-variants.{Refused}
-use Rattle.facts.specs.Facts.{hasNoTerm, hasBlank, misplaced, faultOf}
+use Rattle.facts.specs.Facts.{hasNoTerm, hasBlank, misplaced, faultOf, orElse}
 use Rattle.facts.specs.Answers.{codeOf, numberOf}
 use Rattle.facts.proofs.Terms.{by-cases}
-use Rattle.table.specs.Judged.{orElse}
 use Rattle.table.specs.Scans.{earns}
 use Rattle.table.specs.Tables.{Table, accepted, refused, lineFact, lineVerdict, sized, tableOf}
 use Rattle.table.proofs.Rows.{accepted-size}

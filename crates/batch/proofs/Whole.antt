@@ -25,7 +25,7 @@ use Rattle.batch.specs.declared.Query.{Query}
 use Rattle.batch.specs.Input.{isZeroLine, bytesBehind, questionsBehind, allLaid, partsBehind, dividedFrom, layoutOf, questionAt}
 use Rattle.batch.specs.Output.{codeLine, replyTo, reply, longest, replyIn, outputBy, outputOf}
 use Rattle.batch.proofs.Replies.{reply-fits}
-use Rattle.batch.specs.Whole.{zeroLine, numbers, questionLine, AllBelow, Laid}
+use Rattle.batch.specs.Whole.{zeroLine, queryNumbers, questionLine, AllBelow, Laid}
 
 -- ---- the zero line
 
@@ -103,13 +103,13 @@ parts-say b size s n e =
 
 -- ---- questions
 
-question-eq : (p q : Query) → numbers p ≡ numbers q → p ≡ q
+question-eq : (p q : Query) → queryNumbers p ≡ queryNumbers q → p ≡ q
 question-eq p q e =
     let f = fact-eq (p .fact) (q .fact) (cc) (cc) (cc) in
     let l : p .limit ≡ q .limit = cc in
     λ i. record { fact = f i; limit = l i }
 
-question-numbers : (b : List ℕ) (at : ℕ) → numbersAt 4 b at ≡ numbers (questionAt b at)
+question-numbers : (b : List ℕ) (at : ℕ) → numbersAt 4 b at ≡ queryNumbers (questionAt b at)
 unfolding numbersAt questionAt
 question-numbers b at =
     let e₁ : at + 5 + 5 ≡ at + 10 = omega arith in
@@ -142,8 +142,8 @@ module _ (b : List ℕ) (from : ℕ) where
   laid-read [] i e below = (refl, refl)
   laid-read (q ∷ qs) i e below =
       let at = from + 21 * i in
-      let w = line-read (numbers q) b (flat questionLine qs) at (below .0) e in
-      let d : drop (at + 21) b ≡ flat questionLine qs = rw (← drop-drop 21 at b, e) (drop-at (questionLine q) (flat questionLine qs) 21 (line-length (numbers q))) in
+      let w = line-read (queryNumbers q) b (flat questionLine qs) at (below .0) e in
+      let d : drop (at + 21) b ≡ flat questionLine qs = rw (← drop-drop 21 at b, e) (drop-at (questionLine q) (flat questionLine qs) 21 (line-length (queryNumbers q))) in
       let r = laid-read qs (suc i) (rw place-next at d) (below .1) in
       let k : questionAt b at ≡ q = question-eq (questionAt b at) q (sym (question-numbers b at) ∙ w .1) in
       (rw (w .0, place-next) (r .0), rw (k, r .1))
@@ -166,7 +166,7 @@ laid-layout b table qs l =
     let rest = flat questionLine qs in
     let lines : 16 * (0 + k) ≡ size = omega (arith, l .whole) in
     let long : length b ≡ size + (16 + 21 * length qs) =
-    ap length (l .bytes) ∙ rw (length-append, length-append, zero-length, flat-length questionLine 21 (λ q. line-length (numbers q)) qs) in
+    ap length (l .bytes) ∙ rw (length-append, length-append, zero-length, flat-length questionLine 21 (λ q. line-length (queryNumbers q)) qs) in
     let behind : drop size b ≡ zeroLine ++ rest = rw (l .bytes) (drop-at table (zeroLine ++ rest) size refl) in
     let here : isZeroLine b (16 * (0 + k)) ≡ true = rw lines (zero-read b size (rw behind (take-at zeroLine rest 16 zero-length))) in
     let front : (j : ℕ) → j < k → take 16 (drop (16 * j) b) ≡ take 16 (drop (16 * j) table) = λ j h. rw (l .bytes) (line-front table (zeroLine ++ rest) (16 * j) (omega arith)) in

@@ -13,18 +13,18 @@ abbrev pub zeroLine : List ℕ
 zeroLine = line (0 ∷ 0 ∷ 0 ∷ [])
 
 -- the four numbers of a question
-abbrev pub numbers : Query → List ℕ
-numbers q = q .fact .subject ∷ q .fact .predicate ∷ q .fact .object ∷ q .limit ∷ []
+abbrev pub queryNumbers : Query → List ℕ
+queryNumbers q = q .fact .subject ∷ q .fact .predicate ∷ q .fact .object ∷ q .limit ∷ []
 
 -- its 21 bytes
 abbrev pub questionLine : Query → List ℕ
-questionLine q = line (numbers q)
+questionLine q = line (queryNumbers q)
 
 -- each number of each question has at most five digits
 unfoldable pub AllBelow : List Query → Type 0
 unfolding Below
 AllBelow [] = Unit {0}
-AllBelow (q ∷ qs) = Below (numbers q) × AllBelow qs
+AllBelow (q ∷ qs) = Below (queryNumbers q) × AllBelow qs
 
 -- b is a table, a zero line and questions, in at most 32,768 bytes; the table has whole lines, and none of them is a zero line
 pub record Laid (b table : List ℕ) (questions : List Query) : Type 0 where

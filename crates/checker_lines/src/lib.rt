@@ -9,12 +9,12 @@ ghost use Rattle.rules.specs.Steps.{same, justified};
 ghost use Rattle.derivation.specs.Bytes.{lineAt};
 ghost use Rattle.acceptance.specs.Check.{linesOf, tableLine, ruleLine};
 ghost use Rattle.acceptance.specs.Near.{Behind};
-ghost use Rattle.acceptance.specs.Holds.{rowFacts, Ascends, Cut};
+ghost use Rattle.acceptance.specs.Holds.{rowFacts, Ascends, FactCut};
 
 // How many of the row's n facts come before f.
 fn lower_bound(row: &[u32], n: usize, f: Fact) -> usize
     requires { ⌜ Ascends (now row) n ⌝ }
-    ensures { λ r. ⌜ Cut (now (row .entry)) n f r ⌝ }
+    ensures { λ r. ⌜ FactCut (now (row .entry)) n f r ⌝ }
 {
     let mut lo = 0;
     let mut hi = n;

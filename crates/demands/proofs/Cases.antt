@@ -5,9 +5,8 @@ use mathlib.Core.List.{map}
 use Rattle.columns.specs.Fields.{column, field, numberAt, hasField, isField}
 use Rattle.columns.specs.Lines.{fields, line, laidOut, flat, itemsFrom}
 use Rattle.facts.specs.Terms.{kindOf}
-use Rattle.facts.specs.Facts.{hasNoTerm, hasBlank, misplaced, faultOf, before}
+use Rattle.facts.specs.Facts.{hasNoTerm, hasBlank, misplaced, faultOf, before, orElse}
 use Rattle.table.specs.Scans.{above, earns, firstEarned, onward, scan}
-use Rattle.table.specs.Judged.{orElse}
 use Rattle.table.specs.Tables.{lineFact, sized, meant, lineVerdict, tableScan, tableOf}
 use Rattle.rules.specs.Graph.{keep, any, layer, least}
 use Rattle.rules.specs.Paths.{link, property, chain, onlyTable, goesOn, next, typed, start, goal, ways, reaches, fewest}

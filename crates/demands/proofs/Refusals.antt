@@ -20,17 +20,16 @@ use Rattle.facts.specs.declared.Verdict.{Verdict}
 use Rattle.facts.specs.declared.Verdict.the-variants.{Sound, Faulty}
 use Rattle.facts.specs.declared.Answer.{Answer}
 use Rattle.facts.specs.declared.Answer.the-variants.{Done, Yes, Long, Accepted, Refused}
-use Rattle.facts.specs.Facts.{wellFormed, faultOf}
+use Rattle.facts.specs.Facts.{wellFormed, faultOf, orElse}
 use Rattle.facts.proofs.Terms.{by-cases, T-of, of-T}
 use Rattle.facts.proofs.Facts.{fault-none}
 use Rattle.table.specs.declared.Scan.{Scan}
 use Rattle.table.specs.declared.Scan.the-variants.{Passes, Stops}
-use Rattle.table.specs.Judged.{orElse}
 use Rattle.table.specs.Scans.{earns, tried, firstEarned, scan}
 use Rattle.table.specs.Tables.{Table, accepted, refused, sized, rowOf, tableBytes, lineFact, rowFact, lineVerdict, rowVerdict, tableOf, tableOfRow, settled, filled}
 use Rattle.table.proofs.Rows.{row-length, bytes-length, sized-fits, sized-says}
 use Rattle.table.proofs.Lists.{scan-sound, scan-all}
-use Rattle.table.proofs.Tables.{scan-stopped, tableOf-accepted, tableOfRow-accepted, first-none, first-earned, Stopped, Refusable, tableOf-refused, tableOfRow-refused}
+use Rattle.table.proofs.Tables.{scan-stopped, tableOf-accepted, tableOfRow-accepted, none-earned, first-earned, Stopped, Refusable, tableOf-refused, tableOfRow-refused}
 use Rattle.records.specs.Records.{settledRecords, filledRecords}
 use Rattle.rules.specs.Rules.{Rule}
 use Rattle.rules.specs.Derivations.{Justified}
@@ -70,7 +69,7 @@ module _ (k size : ℕ) (earned : ℕ → Refusal → Bool) (says : sized k (k *
       rw (h .1, h .2) (refusals.by-size (λ n w. let z : true ≡ false = sym (is n w .0) ∙ h .0 in let o : _≡_ {A = ℕ} 0 1 = cc in omega arith)))
       (λ (h : (sized k (k * 1024) size ≡ true) × Stopped judge (size / k) r place).
       rw (h .1 .counted)
-      (refusals.by-line (says (h .0)) (h .1 .within) (λ j l. first-none (earned j) tried .0 (h .1 .sound j l)) (first-earned (earned (h .1 .line)) tried r .0 (h .1 .refuses))))
+      (refusals.by-line (says (h .0)) (h .1 .within) (λ j l. none-earned (earned j) tried .0 (h .1 .sound j l)) (first-earned (earned (h .1 .line)) tried r .0 (h .1 .refuses))))
 
   lines-are : {r : Refusal} {place : ℕ} → LinesRefused k size earned r place → Refusable (sized k (k * 1024) size) judge (size / k) r place
   lines-are (refusals.by-size torn) = inl (by-cases (sized k (k * 1024) size) (λ e. absurd (torn (size / k) (says e))) (λ e. e), refl, refl)
@@ -81,7 +80,7 @@ module _ (k size : ℕ) (earned : ℕ → Refusal → Bool) (says : sized k (k *
           line = i;
           counted = refl;
           within = rw (is n w .1) h;
-          sound = λ j l. first-none (earned j) tried .1 (before j l);
+          sound = λ j l. none-earned (earned j) tried .1 (before j l);
           refuses = first-earned (earned i) tried r .1 first;
         },
       )

@@ -15,12 +15,11 @@ use Rattle.facts.specs.declared.Verdict.{Verdict}
 use Rattle.facts.specs.declared.Verdict.the-variants.{Sound, Faulty}
 use Rattle.facts.specs.declared.Answer.{Answer}
 use Rattle.facts.specs.declared.Answer.the-variants.{Accepted, Refused}
-use Rattle.facts.specs.Facts.{wellFormed, faultOf}
+use Rattle.facts.specs.Facts.{wellFormed, faultOf, orElse}
 use Rattle.facts.proofs.Terms.{by-cases}
 use Rattle.facts.proofs.Facts.{fault-none}
 use Rattle.table.specs.declared.Scan.{Scan}
 use Rattle.table.specs.declared.Scan.the-variants.{Passes, Stops}
-use Rattle.table.specs.Judged.{orElse}
 use Rattle.table.specs.Scans.{scan}
 use Rattle.table.specs.Tables.{Table, accepted, refused, sized, tableOf, tableOfRow}
 use Rattle.rules.specs.Paths.{fewest}

@@ -14,7 +14,7 @@ use Rattle.facts.specs.declared.Refusal.the-variants.{Size, Allowance, Short, F
 use Rattle.facts.specs.declared.Verdict.the-variants.{Faulty}
 use Rattle.facts.specs.Facts.{wellFormed, faultOf}
 use Rattle.table.specs.Scans.{earns, tried, First}
-use Rattle.table.specs.Tables.{Sound, rowOf, tableBytes, lineFact, rowFact}
+use Rattle.table.specs.Tables.{TableFacts, rowOf, tableBytes, lineFact, rowFact}
 use Rattle.rules.specs.Graph.{_∈_}
 use Rattle.rules.specs.Rules.{Rule}
 use Rattle.rules.specs.Derivations.{Justified}
@@ -27,12 +27,12 @@ use Rattle.question.specs.Question.{needed, Question}
 -- b is the bytes of well-formed, strictly ascending facts, at most 1,024 of them
 pub record SoundTable (b : List ℕ) (facts : List Fact) : Type 0 where
   pub bytes : b ≡ tableBytes facts
-  pub sound : Sound facts
+  pub sound : TableFacts facts
 
 -- row is the numbers of such facts
 pub record SoundRow (row : List ℕ) (facts : List Fact) : Type 0 where
   pub numbers : row ≡ rowOf facts
-  pub sound : Sound facts
+  pub sound : TableFacts facts
 
 -- a sound table with these facts, fact, limit (document 01's allowance) and m bytes of output (its paper)
 pub record SoundQuestion (q : Question) (facts : List Fact) (m : ℕ) : Type 0 where

@@ -12,12 +12,12 @@ use Rattle.columns.proofs.Lines.{line-length}
 use Rattle.columns.proofs.Lists.{flat-length, lines-written, line-placed}
 use Rattle.facts.proofs.Facts.{fact-eq}
 use Rattle.rules.specs.declared.Line.{Line}
-use Rattle.derivation.specs.Bytes.{numbers, lineBytes, derivationBytes, lineAt}
+use Rattle.derivation.specs.Bytes.{lineNumbers, lineBytes, derivationBytes, lineAt}
 
 pub derivation-length : (d : List Line) → length (derivationBytes d) ≡ 31 * length d
-derivation-length = flat-length lineBytes 31 (λ l. line-length (numbers l))
+derivation-length = flat-length lineBytes 31 (λ l. line-length (lineNumbers l))
 
-pub numbers-line : (b : List ℕ) (i : ℕ) → numbersAt 6 b (31 * i) ≡ numbers (lineAt b i)
+pub numbers-line : (b : List ℕ) (i : ℕ) → numbersAt 6 b (31 * i) ≡ lineNumbers (lineAt b i)
 unfolding numbersAt lineAt
 numbers-line b i =
     let e₁ : 31 * i + 5 + 5 ≡ 31 * i + 10 = omega arith in
@@ -26,7 +26,7 @@ numbers-line b i =
     let e₄ : 31 * i + 20 + 5 ≡ 31 * i + 25 = omega arith in
     rw (e₁, e₂, e₃, e₄)
 
-line-eq : (k l : Line) → numbers k ≡ numbers l → k ≡ l
+line-eq : (k l : Line) → lineNumbers k ≡ lineNumbers l → k ≡ l
 line-eq k l e =
     let r : k .rule ≡ l .rule = cc in
     let f : k .first ≡ l .first = cc in
@@ -36,10 +36,10 @@ line-eq k l e =
 
 -- bytes whose n lines are all laid out are those of the lines that they say
 pub derivation-written : (b : List ℕ) (n : ℕ) → length b ≡ 31 * n → ((i : ℕ) → i < n → laidOut 6 b (31 * i) ≡ true) → b ≡ derivationBytes (itemsFrom (lineAt b) 0 n)
-derivation-written b n e laid = lines-written 6 numbers b (lineAt b) (numbers-line b) n n 0 e (zero-add n) laid
+derivation-written b n e laid = lines-written 6 lineNumbers b (lineAt b) (numbers-line b) n n 0 e (zero-add n) laid
 
 -- a derivation whose numbers have at most five digits is read back from its bytes
-pub line-read-back : (d : List Line) (i : ℕ) (z : Line) → i < length d → Below (numbers (getD d i z)) → (laidOut 6 (derivationBytes d) (31 * i) ≡ true) × (lineAt (derivationBytes d) i ≡ getD d i z)
+pub line-read-back : (d : List Line) (i : ℕ) (z : Line) → i < length d → Below (lineNumbers (getD d i z)) → (laidOut 6 (derivationBytes d) (31 * i) ≡ true) × (lineAt (derivationBytes d) i ≡ getD d i z)
 line-read-back d i z h below =
-    let p = line-placed 6 numbers (λ l. refl) d i z h below in
+    let p = line-placed 6 lineNumbers (λ l. refl) d i z h below in
     (p .0, line-eq (lineAt (derivationBytes d) i) (getD d i z) (sym (numbers-line (derivationBytes d) i) ∙ p .1))

@@ -8,15 +8,15 @@ use Rattle.columns.specs.Lines as lines
 use Rattle.columns.specs.Lines.{flat}
 use Rattle.facts.specs.Facts.{fact}
 use Rattle.rules.specs.declared.Line.{Line}
-use Rattle.rules.specs.Derivations.{line}
+use Rattle.rules.specs.Derivations.{derivationLine}
 
 -- the six numbers of a line
-abbrev pub numbers : Line → List ℕ
-numbers l = l .rule ∷ l .first ∷ l .second ∷ l .fact .subject ∷ l .fact .predicate ∷ l .fact .object ∷ []
+abbrev pub lineNumbers : Line → List ℕ
+lineNumbers l = l .rule ∷ l .first ∷ l .second ∷ l .fact .subject ∷ l .fact .predicate ∷ l .fact .object ∷ []
 
 -- its 31 bytes
 abbrev pub lineBytes : Line → List ℕ
-lineBytes l = lines.line (numbers l)
+lineBytes l = lines.line (lineNumbers l)
 
 -- the bytes of a derivation, line after line
 abbrev pub derivationBytes : List Line → List ℕ
@@ -25,5 +25,5 @@ derivationBytes = flat lineBytes
 -- line i of the bytes, counted from 0, by what its fields say
 unfoldable pub lineAt : List ℕ → ℕ → Line
 lineAt b i =
-    line (numberAt b (31 * i)) (numberAt b (31 * i + 5)) (numberAt b (31 * i + 10))
+    derivationLine (numberAt b (31 * i)) (numberAt b (31 * i + 5)) (numberAt b (31 * i + 10))
     (fact (numberAt b (31 * i + 15)) (numberAt b (31 * i + 20)) (numberAt b (31 * i + 25)))

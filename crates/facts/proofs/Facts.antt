@@ -16,7 +16,7 @@ use Rattle.facts.specs.declared.Verdict.{Verdict}
 use Rattle.facts.specs.declared.Verdict.the-variants.{Sound, Faulty}
 use Rattle.facts.specs.Terms.{kindOf, isNoTerm, isVocabulary, isName, isLiteral, isBlank}
 use Rattle.facts.specs.Facts.{isNode, isPredicate, wellFormed, hasNoTerm, hasBlank, misplaced, faultOf, before}
-use Rattle.facts.proofs.Terms.{by-cases, of-T, none-of, node-kinds, predicate-kinds, Within, kind-within}
+use Rattle.facts.proofs.Terms.{by-cases, of-T, none-of, node-kinds, predicate-kinds, OfKind, kind-within}
 
 -- facts with the same three terms are the same
 pub fact-eq : (a b : Fact) → a .subject ≡ b .subject → a .predicate ≡ b .predicate → a .object ≡ b .object → a ≡ b
@@ -29,7 +29,7 @@ pub node-range : (n : ℕ) → leb 6 n && ltb n 60000 ≡ isNode n
 unfolding isNode
 node-range n = go (kindOf n) (kind-within n)
   where
-    go : (k : Kind) → Within k n → leb 6 n && ltb n 60000 ≡ isName k || isLiteral k
+    go : (k : Kind) → OfKind k n → leb 6 n && ltb n 60000 ≡ isName k || isLiteral k
     go NoTerm w = rw (lt-leb 6 n (omega arith))
     go Vocabulary w = rw (lt-leb 6 n (omega arith))
     go Name w = rw (le-leb 6 n (omega arith), lt-ltb n 60000 (omega arith))
@@ -42,7 +42,7 @@ pub predicate-range : (n : ℕ) → ltb 0 n && ltb n 40000 ≡ isPredicate n
 unfolding isPredicate
 predicate-range n = go (kindOf n) (kind-within n)
   where
-    go : (k : Kind) → Within k n → ltb 0 n && ltb n 40000 ≡ isName k || isVocabulary k
+    go : (k : Kind) → OfKind k n → ltb 0 n && ltb n 40000 ≡ isName k || isVocabulary k
     go NoTerm w = rw (le-ltb 0 n (omega arith))
     go Vocabulary w = rw (lt-ltb 0 n (omega arith), lt-ltb n 40000 (omega arith))
     go Name w = rw (lt-ltb 0 n (omega arith), lt-ltb n 40000 (omega arith))

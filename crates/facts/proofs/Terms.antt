@@ -62,15 +62,15 @@ node-predicate BlankNode a b = absurd a
 node-predicate Beyond a b = absurd a
 
 -- the numbers of each kind
-abbrev pub Within : Kind → ℕ → Type 0
-Within NoTerm n = n ≡ 0
-Within Vocabulary n = (1 ≤ n) × (n < 6)
-Within Name n = (6 ≤ n) × (n < 40000)
-Within Literal n = (40000 ≤ n) × (n < 60000)
-Within BlankNode n = (60000 ≤ n) × (n ≤ 65535)
-Within Beyond n = 65535 < n
+abbrev pub OfKind : Kind → ℕ → Type 0
+OfKind NoTerm n = n ≡ 0
+OfKind Vocabulary n = (1 ≤ n) × (n < 6)
+OfKind Name n = (6 ≤ n) × (n < 40000)
+OfKind Literal n = (40000 ≤ n) × (n < 60000)
+OfKind BlankNode n = (60000 ≤ n) × (n ≤ 65535)
+OfKind Beyond n = 65535 < n
 
-pub kind-within : (n : ℕ) → Within (kindOf n) n
+pub kind-within : (n : ℕ) → OfKind (kindOf n) n
 unfolding kindOf
 kind-within n =
     by-cases (eqb n 0) (λ a. rw a (eqb-true n 0 a))

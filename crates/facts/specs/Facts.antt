@@ -48,6 +48,11 @@ unfoldable pub faultOf : Fact → Verdict
 unfolding hasNoTerm hasBlank misplaced
 faultOf f = cond (hasNoTerm f) (Faulty Term) (cond (hasBlank f) (Faulty Blank) (cond (misplaced f) (Faulty Part) Sound))
 
+-- a verdict, or else another
+unfoldable pub orElse : Verdict → Verdict → Verdict
+orElse Sound v = v
+orElse (Faulty r) v = Faulty r
+
 -- a comes strictly before b: by subject, then predicate, then object
 unfoldable pub before : Fact → Fact → Bool
 before a b =

@@ -16,13 +16,12 @@ use Rattle.facts.specs.declared.Verdict.{Verdict}
 use Rattle.facts.specs.declared.Verdict.the-variants.{Sound, Faulty}
 use Rattle.facts.specs.declared.Answer.{Answer}
 use Rattle.facts.specs.declared.Answer.the-variants.{Yes, No, Long, Refused}
-use Rattle.facts.specs.Facts.{fact, wellFormed, faultOf}
+use Rattle.facts.specs.Facts.{fact, wellFormed, faultOf, orElse}
 use Rattle.facts.specs.Answers.{codeOf, YesWith, LongWith, Follows, SaysNo}
 use Rattle.facts.proofs.Terms.{by-cases}
 use Rattle.facts.proofs.Facts.{fault-none}
 use Rattle.facts.proofs.Codes.{told-yes, told-long, told-no}
 use Rattle.columns.specs.Lines.{over}
-use Rattle.table.specs.Judged.{orElse}
 use Rattle.table.specs.Tables.{Table, accepted, refused, tableOf, rowOf, rowFact, loaded}
 use Rattle.table.proofs.Rows.{loaded-accepted}
 use Rattle.table.proofs.Tables.{tableOf-accepted, row-at, row-items}

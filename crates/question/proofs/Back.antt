@@ -23,7 +23,7 @@ use Rattle.columns.specs.Lines.{itemsFrom, over}
 use Rattle.question.specs.Row.{factsOf}
 use Rattle.question.specs.declared.State.{State}
 use Rattle.question.specs.State.{Way, Met}
-use Rattle.question.specs.Trace.{orElse, precedes, beforeOf, comesBy, ending}
+use Rattle.question.specs.Trace.{placeOr, precedes, beforeOf, comesBy, ending}
 use Rattle.columns.proofs.Lists.{items-length}
 use Rattle.question.proofs.Laws.{fact-in}
 
@@ -145,7 +145,7 @@ module _ (row : List ℕ) (n w : ℕ) (t : Fact) (f : ℕ) (s : State) (m : Met 
       (lt→ltb (r .0) n (omega (arith, r .2, items-length (rowFact row) 0 n)))))
     where
       go : (o : Option ℕ) → least (leads (start w t) (next w) S (fact 0 0 0) (suc k) (at j)) 0 (length S) ≡ o → Answer (leads (start w t) (next w) S (fact 0 0 0) (suc k) (at j)) 0 (length S) o
-          → T (ltb (orElse n o) n) → T (arrives (start w t) (next w) S (suc (suc k)) (at j))
+          → T (ltb (placeOr n o) n) → T (arrives (start w t) (next w) S (suc (suc k)) (at j))
       go none z a x = let y = ltb-yes {a = n} {b = n} x in absurd (omega arith)
       go (some i) z a x =
           let y = ltb-yes {a = i} {b = n} x in
@@ -176,12 +176,12 @@ module _ (row : List ℕ) (n w : ℕ) (t : Fact) (f : ℕ) (s : State) (m : Met 
       pub here : getD path i 0 ≡ j
       pub whole : back (start w t) (next w) S (fact 0 0 0) (suc i) j ++ drop (suc i) path ≡ over (chosenBy S t w f) path₀
 
-    pub reading-begin : (k j : ℕ) → f ≡ suc k → f ≤ length path₀ → j ≡ orElse n (least (ending row n w (s .mark) t k) 0 n) → Reading k j (set path₀ k j)
+    pub reading-begin : (k j : ℕ) → f ≡ suc k → f ≤ length path₀ → j ≡ placeOr n (least (ending row n w (s .mark) t k) 0 n) → Reading k j (set path₀ k j)
     unfolding chosenBy
     reading-begin k j e room found =
         let r = from-some (start w t) (next w) S (fact 0 0 0) (goal t) f (m .path) (m .ends) in
         let i : ℕ = r .0 in
-        let z : j ≡ i = found ∙ ap (orElse n) (same-end k e ∙ r .1) in
+        let z : j ≡ i = found ∙ ap (placeOr n) (same-end k e ∙ r .1) in
         let c = from-is (start w t) (next w) S (fact 0 0 0) (goal t) f i (r .1) in
         let l = by-read S t w f (m .path) (m .ends) .1 .long in
         rw z record {
@@ -227,7 +227,7 @@ module _ (row : List ℕ) (n w : ℕ) (t : Fact) (f : ℕ) (s : State) (m : Met 
   pub over-set : (path₀ : List ℕ) (k v : ℕ) → k < f → over (chosenBy S t w f) (set path₀ k v) ≡ over (chosenBy S t w f) path₀
   over-set path₀ k v h = let l = by-read S t w f (m .path) (m .ends) .1 .long in rw l (ap (λ (y : List ℕ). chosenBy S t w f ++ y) (drop-set-lt f path₀ k v h))
 
-  pub reading-start : (path₀ : List ℕ) (k j : ℕ) → f ≡ suc k → f ≤ length path₀ → j ≡ orElse n (least (ending row n w (s .mark) t k) 0 n) → Reading (set path₀ k j) k j (set path₀ k j)
+  pub reading-start : (path₀ : List ℕ) (k j : ℕ) → f ≡ suc k → f ≤ length path₀ → j ≡ placeOr n (least (ending row n w (s .mark) t k) 0 n) → Reading (set path₀ k j) k j (set path₀ k j)
   reading-start path₀ k j e room found =
       let d = reading-begin path₀ k j e room found in
       record { short = d .short; inside = d .inside; arrives = d .arrives; low = d .low; long = refl; here = d .here; whole = d .whole ∙ sym (over-set path₀ k j (omega arith)) }

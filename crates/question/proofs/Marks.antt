@@ -14,7 +14,7 @@ use Rattle.rules.proofs.Printed.{path-pos}
 use Rattle.question.specs.declared.State.{State}
 use Rattle.table.specs.Tables.{rowFact}
 use Rattle.question.specs.Row.{factsOf}
-use Rattle.question.specs.State.{markAt, placeAt, Ordered, Way, Sound, Round, Met, Nowhere, empty}
+use Rattle.question.specs.State.{markAt, placeAt, Ordered, Way, MarksPaths, Round, Met, Nowhere, empty}
 use Rattle.question.proofs.Laws.{pushed, old-place, equal-or, most-or, fact-in, place-of, new-mark, stays, kept, mark-at-end, push-ordered, old-mark, unmarked, empty-ordered}
 
 module _ (row : List ℕ) (n w : ℕ) (t : Fact) where
@@ -31,7 +31,7 @@ module _ (row : List ℕ) (n w : ℕ) (t : Fact) where
     abbrev s′ : State
     s′ = pushed s j (suc k)
 
-    push-sound : Sound row n w t (s .mark) → Way row n w t j (suc k) → Sound row n w t (s′ .mark)
+    push-sound : MarksPaths row n w t (s .mark) → Way row n w t j (suc k) → MarksPaths row n w t (s′ .mark)
     push-sound sound way i l = equal-or i j
         (λ e. subst (λ (y : ℕ). (y < n) × Way row n w t y (markAt s′ y)) (sym e) (h, subst (Way row n w t j) (sym (new-mark n s j few o h z (suc k))) way))
         (λ e. let x = old-mark s j (suc k) i e in let d = sound i (omega arith) in (d .0, subst (Way row n w t i) (sym x) (d .1)))

@@ -29,7 +29,7 @@ use Rattle.rules.proofs.Chosen.{least-below, chosen-fewest, chosen-path, print-
 use Rattle.question.specs.declared.Found.{Found}
 use Rattle.question.specs.declared.Found.the-variants.{Nothing, Facts}
 use Rattle.question.specs.Row.{factsOf}
-use Rattle.question.specs.Answer.{foundOf, placesOf, Answers}
+use Rattle.question.specs.Answer.{foundOf, placesOf, Finds}
 use Rattle.question.specs.Order.{Placed, InPrint, factsAt}
 use Rattle.question.specs.Question.{answerBy, answerOf, written, printedOf, printedFor}
 use Rattle.question.proofs.Back.{at-fact}
@@ -69,7 +69,7 @@ map-same (x ∷ xs) h = rw (h x (List·Memᴰ·head refl), map-same xs (λ i m. 
 
 -- ---- an answer with f facts
 
-module _ (row : List ℕ) (n : ℕ) (t : Fact) (before after : List ℕ) {r : Found} (f : ℕ) (is : r ≡ Facts f) (a : Answers row n t before after r) where
+module _ (row : List ℕ) (n : ℕ) (t : Fact) (before after : List ℕ) {r : Found} (f : ℕ) (is : r ≡ Facts f) (a : Finds row n t before after r) where
   -- it has the f places of the chosen path
   pub record Chosen : Type 0 where
     pub places : List ℕ
@@ -147,7 +147,7 @@ module _ (row : List ℕ) (n : ℕ) (t : Fact) (before after : List ℕ) {r : Fo
   unfolding answerOf answerBy written printedFor printedOf
   settle-yes limit entry exit after′ h whole p e = (rw (found-fewest, le-leb f limit h), e ∙ rw (print-facts whole after′ p, found-chosen .chosen))
 
-pub settle-no : (row : List ℕ) (n : ℕ) (t : Fact) (before after : List ℕ) {r : Found} → r ≡ Nothing → Answers row n t before after r → (limit : ℕ) (output : List ℕ)
+pub settle-no : (row : List ℕ) (n : ℕ) (t : Fact) (before after : List ℕ) {r : Found} → r ≡ Nothing → Finds row n t before after r → (limit : ℕ) (output : List ℕ)
     → (No ≡ answerOf (factsOf row n) t limit) × (output ≡ written No (printedFor (factsOf row n) t) output)
 unfolding answerOf answerBy written
 settle-no row n t before after {r} is a limit output = go (chosen (factsOf row n) t) refl (a .result)

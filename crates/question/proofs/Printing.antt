@@ -12,7 +12,7 @@ use Rattle.columns.specs.Lines.{over, flat, itemsFrom}
 use Rattle.columns.proofs.Lists.{items-length, items-more, flat-append}
 use Rattle.facts.specs.declared.Fact.{Fact}
 use Rattle.rules.specs.declared.Line.{Line}
-use Rattle.rules.specs.Derivations.{line}
+use Rattle.rules.specs.Derivations.{derivationLine}
 use Rattle.rules.specs.Printed.{join, joinAll, printed}
 use Rattle.derivation.specs.Bytes.{lineBytes, derivationBytes}
 use Rattle.derivation.proofs.Bytes.{derivation-length}
@@ -54,28 +54,28 @@ result d [] = d
 result d (f ∷ fs) = resultOf f 1 fs
 
 joins-more : (c : Fact) (i : ℕ) (fs : List Fact) (f : Fact)
-    → (joinAll c i (fs ++ (f ∷ [])) ≡ joinAll c i fs ++ (line 0 0 0 f ∷ join (resultOf c i fs) (i + 2 * length fs) f ∷ []))
+    → (joinAll c i (fs ++ (f ∷ [])) ≡ joinAll c i fs ++ (derivationLine 0 0 0 f ∷ join (resultOf c i fs) (i + 2 * length fs) f ∷ []))
     × (resultOf c i (fs ++ (f ∷ [])) ≡ join (resultOf c i fs) (i + 2 * length fs) f .fact)
 unfolding joinAll resultOf
-joins-more c i [] f = let e : i ≡ i + 2 * 0 = omega arith in (ap (λ (y : ℕ). line 0 0 0 f ∷ join c y f ∷ []) e, ap (λ (y : ℕ). join c y f .fact) e)
+joins-more c i [] f = let e : i ≡ i + 2 * 0 = omega arith in (ap (λ (y : ℕ). derivationLine 0 0 0 f ∷ join c y f ∷ []) e, ap (λ (y : ℕ). join c y f .fact) e)
 joins-more c i (g ∷ fs) f =
     let e : suc (suc i) + 2 * length fs ≡ i + 2 * suc (length fs) = omega arith in
     let r = joins-more (join c i g .fact) (suc (suc i)) fs f in
     let last : Fact = resultOf (join c i g .fact) (suc (suc i)) fs in (
-      ap (λ (l : List Line). line 0 0 0 g ∷ join c i g ∷ l) (r .0 ∙ ap (λ (y : ℕ). joinAll (join c i g .fact) (suc (suc i)) fs ++ (line 0 0 0 f ∷ join last y f ∷ [])) e),
+      ap (λ (l : List Line). derivationLine 0 0 0 g ∷ join c i g ∷ l) (r .0 ∙ ap (λ (y : ℕ). joinAll (join c i g .fact) (suc (suc i)) fs ++ (derivationLine 0 0 0 f ∷ join last y f ∷ [])) e),
       r .1 ∙ ap (λ (y : ℕ). join last y f .fact) e,
     )
 
 -- one fact more is a table line, and the line that joins it to the result so far, on line 2 k - 1
 printed-more : (d : Fact) (fs : List Fact) (f : Fact) → 0 < length fs
-    → (printed (fs ++ (f ∷ [])) ≡ printed fs ++ (line 0 0 0 f ∷ join (result d fs) (2 * length fs - 1) f ∷ []))
+    → (printed (fs ++ (f ∷ [])) ≡ printed fs ++ (derivationLine 0 0 0 f ∷ join (result d fs) (2 * length fs - 1) f ∷ []))
     × (result d (fs ++ (f ∷ [])) ≡ join (result d fs) (2 * length fs - 1) f .fact)
 unfolding printed result
 printed-more d [] f h = absurd (omega arith)
 printed-more d (g ∷ fs) f h =
     let e : 1 + 2 * length fs ≡ 2 * suc (length fs) - 1 = omega arith in
     let r = joins-more g 1 fs f in (
-      ap (λ (l : List Line). line 0 0 0 g ∷ l) (r .0 ∙ ap (λ (y : ℕ). joinAll g 1 fs ++ (line 0 0 0 f ∷ join (resultOf g 1 fs) y f ∷ [])) e),
+      ap (λ (l : List Line). derivationLine 0 0 0 g ∷ l) (r .0 ∙ ap (λ (y : ℕ). joinAll g 1 fs ++ (derivationLine 0 0 0 f ∷ join (resultOf g 1 fs) y f ∷ [])) e),
       r .1 ∙ ap (λ (y : ℕ). join (resultOf g 1 fs) y f .fact) e,
     )
 
@@ -94,15 +94,15 @@ module _ (at : ℕ → Fact) where
   pub bytes-length : (k : ℕ) → length (bytesOf k) ≡ 31 * (2 * k - 1)
   bytes-length k = rw (derivation-length, printed-length, items-length)
 
-  pub bytes-first : bytesOf 1 ≡ lineBytes (line 0 0 0 (at 0))
+  pub bytes-first : bytesOf 1 ≡ lineBytes (derivationLine 0 0 0 (at 0))
   unfolding printed joinAll itemsFrom flat
-  bytes-first = append-nil (lineBytes (line 0 0 0 (at 0)))
+  bytes-first = append-nil (lineBytes (derivationLine 0 0 0 (at 0)))
 
   pub result-first : resultAt 1 ≡ at 0
   unfolding result resultOf itemsFrom
   result-first = refl
 
-  pub bytes-more : (k : ℕ) → 0 < k → (bytesOf (k + 1) ≡ bytesOf k ++ derivationBytes (line 0 0 0 (at k) ∷ join (resultAt k) (2 * k - 1) (at k) ∷ []))
+  pub bytes-more : (k : ℕ) → 0 < k → (bytesOf (k + 1) ≡ bytesOf k ++ derivationBytes (derivationLine 0 0 0 (at k) ∷ join (resultAt k) (2 * k - 1) (at k) ∷ []))
       × (resultAt (k + 1) ≡ join (resultAt k) (2 * k - 1) (at k) .fact)
   bytes-more k h =
       let n : length (itemsFrom at 0 k) ≡ k = items-length at 0 k in

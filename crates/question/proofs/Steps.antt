@@ -20,15 +20,15 @@ use Rattle.rules.proofs.Chosen.{least-below, least-some}
 use Rattle.question.specs.declared.State.{State}
 use Rattle.question.specs.Row.{Rising}
 use Rattle.question.specs.State.{Ordered, PartOf, Early}
-use Rattle.question.specs.Trace.{orElse, precedes, comesBy, ending, Queued, Stepping, Stepped, FirstEnd}
+use Rattle.question.specs.Trace.{placeOr, precedes, comesBy, ending, Queued, Stepping, Stepped, FirstEnd}
 use Rattle.question.proofs.Laws.{equal-or, most-or, to-most}
 use Rattle.question.proofs.Parts.{Followed, Noted, note-none, note-more, part-passed, part-noted, part-within}
 
 -- at passes, or is n, and nothing lower passes: so it is the first that passes, or n
-least-is : (p : ℕ → Bool) (n at : ℕ) → (at ≡ n) ⊎ ((at < n) × T (p at)) → ((i : ℕ) → i < n → T (p i) → at ≤ i) → at ≡ orElse n (least p 0 n)
+least-is : (p : ℕ → Bool) (n at : ℕ) → (at ≡ n) ⊎ ((at < n) × T (p at)) → ((i : ℕ) → i < n → T (p i) → at ≤ i) → at ≡ placeOr n (least p 0 n)
 least-is p n at is low = go (least p 0 n) refl (least-answer p 0 n)
   where
-    go : (o : Option ℕ) → least p 0 n ≡ o → Answer p 0 n o → at ≡ orElse n o
+    go : (o : Option ℕ) → least p 0 n ≡ o → Answer p 0 n o → at ≡ placeOr n o
     go none e a = ⊎-elim (λ (x : at ≡ n). x) (λ (x : (at < n) × T (p at)). absurd (a at (omega arith) (omega (arith, x .0)) (x .1))) is
     go (some k) e a =
         let h : k < n = omega (arith, least-below p 0 n k e) in
@@ -114,7 +114,7 @@ module _ (row : List ℕ) (n w : ℕ) (mark queue : List ℕ) (m : ℕ) where
     comes-says : (b : Fact) → 0 < m → T (comesBy row n w mark t m b) → (i : ℕ) × (i < n) × T (precedes row n w mark m b i)
     comes-says b s x = go (least (precedes row n w mark m b) 0 n) refl (least-answer (precedes row n w mark m b) 0 n) (rw (ne-eqb m 0 (λ e. omega arith)) at x)
       where
-        go : (o : Option ℕ) → least (precedes row n w mark m b) 0 n ≡ o → Answer (precedes row n w mark m b) 0 n o → T (ltb (orElse n (least (precedes row n w mark m b) 0 n)) n)
+        go : (o : Option ℕ) → least (precedes row n w mark m b) 0 n ≡ o → Answer (precedes row n w mark m b) 0 n o → T (ltb (placeOr n (least (precedes row n w mark m b) 0 n)) n)
             → (i : ℕ) × (i < n) × T (precedes row n w mark m b i)
         go none e a y = let z = ltb-yes {a = n} {b = n} (rw e at y) in absurd (omega arith)
         go (some i) e a y = (i, omega (arith, least-below (precedes row n w mark m b) 0 n i e), a .1)
@@ -159,7 +159,7 @@ module _ (row : List ℕ) (n w : ℕ) (mark queue : List ℕ) (m : ℕ) where
           noted = part-noted row n w (NotBelow r) i (rows .few) found here note;
         }
 
-    pub ending-end : (top best : ℕ) (done : List ℕ) (q : ℕ) → Stepping row n mark queue m top → Ending best done q → top ≤ q → best ≡ orElse n (least (ending row n w mark t m) 0 n)
+    pub ending-end : (top best : ℕ) (done : List ℕ) (q : ℕ) → Stepping row n mark queue m top → Ending best done q → top ≤ q → best ≡ placeOr n (least (ending row n w mark t m) 0 n)
     ending-end top best done q s d l = least-is (ending row n w mark t m) n best (d .is) (λ j h x.
         let u = and-yes (goal t (rowFact row j)) (comesBy row n w mark t m (rowFact row j)) x in
         let c = comes-says (rowFact row j) (s .some) (u .1) in

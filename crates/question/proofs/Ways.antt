@@ -23,7 +23,7 @@ use Rattle.rules.proofs.Chosen.{least-below}
 use Rattle.rules.proofs.Paths.{next-says, start-other, start-data, property-of}
 use Rattle.question.specs.Row.{factsOf, Cut}
 use Rattle.question.specs.State.{Starting}
-use Rattle.question.specs.Trace.{orElse, into}
+use Rattle.question.specs.Trace.{placeOr, into}
 use Rattle.question.proofs.Laws.{place-of, most-or}
 
 start-subject : (w : ℕ) (t a : Fact) → (w ≡ 4 → ⊥) → T (start w t a) → a .subject ≡ t .subject
@@ -64,14 +64,14 @@ next-classing v a b c h =
     ⊎-elim (λ (x : T (goesOn v a) × (b .predicate ≡ chain (property a))). classing b sc refl refl (x .1 ∙ ap chain (c .class)))
     (λ (x : (property a ≡ true) × (b .predicate ≡ v) × (named (b .subject) ≡ true)). absurd (true≢false (sym (x .0) ∙ c .class))) (next-says v a b h .1)
 
-module _ (row : List ℕ) (n : ℕ) (t : Fact) (asks : t .predicate ≡ 5) (out : n ≤ orElse n (least (into row (t .subject)) 0 n)) where
+module _ (row : List ℕ) (n : ℕ) (t : Fact) (asks : t .predicate ≡ 5) (out : n ≤ placeOr n (least (into row (t .subject)) 0 n)) where
   -- no fact is into the subject
   into-none : (i : ℕ) → i < n → T (into row (t .subject) i) → ⊥
   into-none i h x = go (least (into row (t .subject)) 0 n) refl (least-answer (into row (t .subject)) 0 n)
     where
       go : (o : Option ℕ) → least (into row (t .subject)) 0 n ≡ o → Answer (into row (t .subject)) 0 n o → ⊥
       go none e a = a i (omega arith) (omega arith) x
-      go (some k) e a = omega (arith, least-below (into row (t .subject)) 0 n k e, ap (orElse n) e)
+      go (some k) e a = omega (arith, least-below (into row (t .subject)) 0 n k e, ap (placeOr n) e)
 
   -- so a path by range begins with no data fact
   start-plain : {a : Fact} → a ∈ factsOf row n → T (start 4 t a) → named (a .predicate) ≡ false

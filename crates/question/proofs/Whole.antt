@@ -30,8 +30,8 @@ use Rattle.facts.specs.Facts.{before}
 use Rattle.facts.proofs.Facts.{Before, by-subject, by-predicate, by-object, before-iff}
 use Rattle.question.specs.State.{Met, Nowhere, Left}
 use Rattle.columns.specs.Lines.{over}
-use Rattle.question.specs.Trace.{Traceable, orElse, into}
-use Rattle.question.specs.Answer.{Answers, Given, Gives}
+use Rattle.question.specs.Trace.{Traceable, placeOr, into}
+use Rattle.question.specs.Answer.{Finds, Given, FindsBy}
 use Rattle.columns.proofs.Lists.{items-length}
 use Rattle.question.proofs.Laws.{equal-or, most-or}
 use Rattle.question.proofs.Ways.{range-dom}
@@ -67,7 +67,7 @@ module _ (row : List ℕ) (n : ℕ) (t : Fact) where
   Bound f w = (a : Fact) (m : ℕ) → Path (start w t) (next w) (factsOf row n) a m → T (goal t a) → f ≤ m
 
   -- where no way leads to t, there is no path
-  answers-none : (places : List ℕ) → ((w : ℕ) → w ∈ ways t → Nowhere row n w t) → Answers row n t places places Nothing
+  answers-none : (places : List ℕ) → ((w : ℕ) → w ∈ ways t → Nowhere row n w t) → Finds row n t places places Nothing
   unfolding chosen
   answers-none places out =
       let e : fewest (factsOf row n) t ≡ none = fewest-is (factsOf row n) t none (λ h. out (h .way) (h .asked) (h .end) (h .count) (h .path) (h .goal)) in
@@ -75,7 +75,7 @@ module _ (row : List ℕ) (n : ℕ) (t : Fact) where
 
   -- where each way has at least the f facts of a path by w, and w is the first way with so few, the path by w is chosen
   answers-some : (w f : ℕ) (places after : List ℕ) {s : State} → w ∈ ways t → Met row n w t f s → wayOf (factsOf row n) t f ≡ w → after ≡ over (chosenBy (factsOf row n) t w f) places
-      → ((v : ℕ) → v ∈ ways t → Bound f v) → Answers row n t places after (Facts f)
+      → ((v : ℕ) → v ∈ ways t → Bound f v) → Finds row n t places after (Facts f)
   unfolding chosen
   answers-some w f places after a d z k low =
       let h : HasPath (factsOf row n) t = record { way = w; asked = a; end = d .end; count = f; path = d .path; goal = d .ends } in
@@ -84,13 +84,13 @@ module _ (row : List ℕ) (n : ℕ) (t : Fact) where
       record { result = rw (e, z, l) refl; places = rw (e, z) k }
 
   -- the answer of one search, where no other way has fewer facts, and no way before it as few
-  answers : (w f : ℕ) (s : State) (places after : List ℕ) (r : Found) → w ∈ ways t → Left row n w t f s → Gives row n w t f places after r
+  answers : (w f : ℕ) (s : State) (places after : List ℕ) (r : Found) → w ∈ ways t → Left row n w t f s → FindsBy row n w t f places after r
       → (f ≡ 0 → (v : ℕ) → v ∈ ways t → Nowhere row n v t) → (0 < f → (v : ℕ) → v ∈ ways t → Bound f v)
-      → ((m : Met row n w t f s) → wayOf (factsOf row n) t f ≡ w) → Answers row n t places after r
+      → ((m : Met row n w t f s) → wayOf (factsOf row n) t f ≡ w) → Finds row n t places after r
   answers w zero s places after r a l (e, g) out low way =
-      subst (λ (y : Found). Answers row n t places after y) (sym e) (subst (λ (y : List ℕ). Answers row n t places y Nothing) (sym g) (answers-none places (out refl)))
+      subst (λ (y : Found). Finds row n t places after y) (sym e) (subst (λ (y : List ℕ). Finds row n t places y Nothing) (sym g) (answers-none places (out refl)))
   answers w (suc f) s places after r a l (e, g) out low way =
-      subst (λ (y : Found). Answers row n t places after y) (sym e) (answers-some w (suc f) places after a l (way l) g (low (omega arith)))
+      subst (λ (y : Found). Finds row n t places after y) (sym e) (answers-some w (suc f) places after a l (way l) g (low (omega arith)))
 
   bound-of : (w f : ℕ) (s : State) → Left row n w t f s → (k : ℕ) → k ≤ f → 0 < f → Bound k w
   bound-of w zero s l k h p = absurd (omega arith)
@@ -101,7 +101,7 @@ module _ (row : List ℕ) (n : ℕ) (t : Fact) where
   bound-none w (suc f) s l e = absurd (omega arith)
 
   -- one way, where t is no type
-  pub answers-plain : (f : ℕ) (s : State) (places after : List ℕ) (r : Found) → (t .predicate ≡ 5 → ⊥) → Left row n 2 t f s → Gives row n 2 t f places after r → Answers row n t places after r
+  pub answers-plain : (f : ℕ) (s : State) (places after : List ℕ) (r : Found) → (t .predicate ≡ 5 → ⊥) → Left row n 2 t f s → FindsBy row n 2 t f places after r → Finds row n t places after r
   unfolding ways
   answers-plain f s places after r h l g =
       let off = ne-eqb (t .predicate) 5 h in
@@ -123,7 +123,7 @@ module _ (row : List ℕ) (n : ℕ) (t : Fact) where
 
   -- by range where the way by dom has more facts, and by dom where the way by range has no fewer
   pub answers-range : (f k : ℕ) (s u : State) (places after : List ℕ) (r : Found) → t .predicate ≡ 5 → Left row n 4 t f s → Left row n 3 t k u
-      → 0 < f → (k ≡ 0) ⊎ (f < k) → Gives row n 4 t f places after r → Answers row n t places after r
+      → 0 < f → (k ≡ 0) ⊎ (f < k) → FindsBy row n 4 t f places after r → Finds row n t places after r
   unfolding ways
   answers-range f k s u places after r h l m pos less g =
       let on = eq-eqb (t .predicate) 5 h in
@@ -133,7 +133,7 @@ module _ (row : List ℕ) (n : ℕ) (t : Fact) where
       (λ y. way-range (factsOf row n) t f on (λ a p q. ⊎-elim (λ z. bound-none 3 k u m z a f p q) (λ z. let b = bound-of 3 k u m (suc f) z (omega arith) a f p q in omega arith) less) (y .path) (y .ends))
 
   pub answers-dom : (f : ℕ) (s : State) (places after : List ℕ) (r : Found) → t .predicate ≡ 5 → Left row n 3 t f s → (f ≡ 0 → Nowhere row n 4 t) → (0 < f → Bound f 4)
-      → Gives row n 3 t f places after r → Answers row n t places after r
+      → FindsBy row n 3 t f places after r → Finds row n t places after r
   unfolding ways
   answers-dom f s places after r h l out low g =
       let on = eq-eqb (t .predicate) 5 h in
@@ -143,8 +143,8 @@ module _ (row : List ℕ) (n : ℕ) (t : Fact) where
       (λ y. way-dom (factsOf row n) t f on (y .path) (y .ends))
 
   -- or where no data fact is into the subject
-  pub answers-alone : (f : ℕ) (s : State) (places after : List ℕ) (r : Found) → t .predicate ≡ 5 → n ≤ orElse n (least (into row (t .subject)) 0 n) → Left row n 3 t f s
-      → Gives row n 3 t f places after r → Answers row n t places after r
+  pub answers-alone : (f : ℕ) (s : State) (places after : List ℕ) (r : Found) → t .predicate ≡ 5 → n ≤ placeOr n (least (into row (t .subject)) 0 n) → Left row n 3 t f s
+      → FindsBy row n 3 t f places after r → Finds row n t places after r
   answers-alone f s places after r h out l =
       answers-dom f s places after r h l (λ e a m p. bound-none 3 f s l e a m (range-dom row n t h out p))
       (λ p a m q. bound-of 3 f s l f (omega arith) p a m (range-dom row n t h out q))
@@ -159,10 +159,10 @@ module _ (row : List ℕ) (n : ℕ) (t : Fact) where
       let m = left-some w f s h (d .left) in
       record { rising = d .rising; some = most-or f 0 (λ l. absurd (h (omega arith))) (λ l. l); met = m; room = omega (arith, met-few m, d .room) }
 
-  pub gives-none : (w f : ℕ) (places : List ℕ) → f ≡ 0 → Gives row n w t f places places Nothing
+  pub gives-none : (w f : ℕ) (places : List ℕ) → f ≡ 0 → FindsBy row n w t f places places Nothing
   gives-none w zero places e = (refl, refl)
   gives-none w (suc f) places e = absurd (omega arith)
 
-  pub gives-some : (w f : ℕ) (places after : List ℕ) → (f ≡ 0 → ⊥) → after ≡ over (chosenBy (factsOf row n) t w f) places → Gives row n w t f places after (Facts f)
+  pub gives-some : (w f : ℕ) (places after : List ℕ) → (f ≡ 0 → ⊥) → after ≡ over (chosenBy (factsOf row n) t w f) places → FindsBy row n w t f places after (Facts f)
   gives-some w zero places after h d = absurd (h refl)
   gives-some w (suc f) places after h d = (refl, d)

@@ -25,7 +25,7 @@ placesOf none before = before
 placesOf (some places) before = over places before
 
 -- the answer is that for the chosen path, and its places are written
-pub record Answers (row : List ℕ) (n : ℕ) (t : Fact) (before after : List ℕ) (r : Found) : Type 0 where
+pub record Finds (row : List ℕ) (n : ℕ) (t : Fact) (before after : List ℕ) (r : Found) : Type 0 where
   pub result : r ≡ foundOf (chosen (factsOf row n) t)
   pub places : after ≡ placesOf (chosen (factsOf row n) t) before
 
@@ -35,6 +35,6 @@ pub record Given (row : List ℕ) (n w : ℕ) (t : Fact) (f : ℕ) (s : State) (
   pub left : Left row n w t f s
   pub room : n ≤ size
 
-abbrev pub Gives : List ℕ → ℕ → ℕ → Fact → ℕ → List ℕ → List ℕ → Found → Type 0
-Gives row n w t zero before after r = (r ≡ Nothing) × (after ≡ before)
-Gives row n w t (suc f) before after r = (r ≡ Facts (suc f)) × (after ≡ over (chosenBy (factsOf row n) t w (suc f)) before)
+abbrev pub FindsBy : List ℕ → ℕ → ℕ → Fact → ℕ → List ℕ → List ℕ → Found → Type 0
+FindsBy row n w t zero before after r = (r ≡ Nothing) × (after ≡ before)
+FindsBy row n w t (suc f) before after r = (r ≡ Facts (suc f)) × (after ≡ over (chosenBy (factsOf row n) t w (suc f)) before)

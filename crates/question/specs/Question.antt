@@ -16,9 +16,8 @@ use Rattle.facts.specs.declared.Verdict.the-variants.{Sound, Faulty}
 use Rattle.facts.specs.declared.Answer.{Answer}
 use Rattle.facts.specs.declared.Answer.the-variants.{Done, Yes, No, Long, Accepted, Refused}
 use Rattle.facts.specs.declared.Code.{Code}
-use Rattle.facts.specs.Facts.{faultOf}
+use Rattle.facts.specs.Facts.{faultOf, orElse}
 use Rattle.facts.specs.Answers.{Follows, YesWith, LongWith, SaysNo}
-use Rattle.table.specs.Judged.{orElse}
 use Rattle.table.specs.Tables.{Table, accepted, refused, tableOf}
 use Rattle.rules.specs.declared.Line.{Line}
 use Rattle.rules.specs.Rules.{Rule}

@@ -43,14 +43,14 @@ module _ (row : List ℕ) (n w : ℕ) (t : Fact) where
   Way i m = Path (start w t) (next w) (factsOf row n) (rowFact row i) m
 
   -- a marked place is one of the n, and ends a path of as many facts as the mark says
-  abbrev pub Sound : List ℕ → Type 0
-  Sound mark = (i : ℕ) → 0 < getD mark i 0 → (i < n) × Way i (getD mark i 0)
+  abbrev pub MarksPaths : List ℕ → Type 0
+  MarksPaths mark = (i : ℕ) → 0 < getD mark i 0 → (i < n) × Way i (getD mark i 0)
 
   -- in the round k the queue has places of lower marks, then from `from` those marked k, and from `end` those marked k + 1;
   -- no marked place is a goal, and a place in which a path of m facts ends, m at most k, is marked, with at most m
   pub record Round (k from end : ℕ) (s : State) : Type 0 where
     pub ordered : Ordered n s
-    pub sound : Sound (s .mark)
+    pub sound : MarksPaths (s .mark)
     pub before : (q : ℕ) → q < from → markAt s (placeAt s q) < k
     pub front : (q : ℕ) → from ≤ q → q < end → markAt s (placeAt s q) ≡ k
     pub behind : (q : ℕ) → end ≤ q → q < s .to → markAt s (placeAt s q) ≡ suc k
@@ -65,7 +65,7 @@ module _ (row : List ℕ) (n w : ℕ) (t : Fact) where
   -- the marks below f are the numbers of facts of the shortest paths, a path of f facts leads to a goal, and none of fewer
   pub record Met (f : ℕ) (s : State) : Type 0 where
     pub ordered : Ordered n s
-    pub sound : Sound (s .mark)
+    pub sound : MarksPaths (s .mark)
     pub whole : (i : ℕ) → i < n → (m : ℕ) → Way i m → m < f → (0 < markAt s i) × (markAt s i ≤ m)
     pub end : Fact
     pub path : Path (start w t) (next w) (factsOf row n) end f

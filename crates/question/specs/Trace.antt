@@ -17,9 +17,9 @@ use Rattle.question.specs.Row.{Rising}
 use Rattle.question.specs.State.{Met}
 
 -- a number, or else n
-abbrev pub orElse : ℕ → Option ℕ → ℕ
-orElse n none = n
-orElse n (some i) = i
+abbrev pub placeOr : ℕ → Option ℕ → ℕ
+placeOr n none = n
+placeOr n (some i) = i
 
 -- the fact at j is a start and a goal
 abbrev pub single : List ℕ → ℕ → Fact → ℕ → Bool
@@ -36,7 +36,7 @@ module _ (row : List ℕ) (n w : ℕ) (mark : List ℕ) where
 
   -- the first such place, or n
   abbrev pub beforeOf : ℕ → Fact → ℕ
-  beforeOf m b = orElse n (least (precedes m b) 0 n)
+  beforeOf m b = placeOr n (least (precedes m b) 0 n)
 
   -- by the marks, b ends a path of m + 1 facts
   abbrev pub comesBy : Fact → ℕ → Fact → Bool

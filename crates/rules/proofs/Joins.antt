@@ -19,7 +19,7 @@ use Rattle.facts.proofs.Terms.{by-cases, T-of}
 use Rattle.facts.proofs.Facts.{parts}
 use Rattle.rules.specs.Graph.{_∈_}
 use Rattle.rules.specs.Rules.{Gives, sp-sp, sp-data, sc-sc, sc-type, dom-data, range-data, Rule}
-use Rattle.rules.specs.Derivations.{Line, line, factOn, Justified, by-table, by-rule, Justify, tableFacts, tableLines}
+use Rattle.rules.specs.Derivations.{Line, derivationLine, factOn, Justified, by-table, by-rule, Justify, tableFacts, tableLines}
 use Rattle.rules.specs.Order.{Chain, AtMostOne, OfData, DomOrRange, FactsInOrder, RuleLine, Pairs, Alternates}
 use Rattle.rules.specs.Paths.{named, onlyTable}
 use Rattle.rules.specs.Printed.{join, joinAll, printed, Printable}
@@ -61,7 +61,7 @@ data Joint (c f r : Fact) : Type 0 where
 
 -- the line that joins f to c where c is the first premise, and where f is
 join-first : {n : ℕ} {c f r : Fact} → Gives n c f r → T (wellFormed c) → T (wellFormed f) → T (wellFormed r) → T (leb n 3)
-    → ((i : ℕ) → join c i f ≡ line n i (suc i) r) × Joint c f r
+    → ((i : ℕ) → join c i f ≡ derivationLine n i (suc i) r) × Joint c f r
 unfolding join phase
 join-first sp-sp u v w t = (λ i. refl, sp-on refl refl refl refl refl)
 join-first (sp-data {A} {B} {X} {Y}) u v w t =
@@ -73,7 +73,7 @@ join-first sc-type u v w t = absurd t
 join-first dom-data u v w t = absurd t
 join-first range-data u v w t = absurd t
 
-join-second : {n : ℕ} {c f r : Fact} → Gives n f c r → T (wellFormed f) → T (wellFormed c) → T (leb 4 n) → ((i : ℕ) → join c i f ≡ line n (suc i) i r) × Joint c f r
+join-second : {n : ℕ} {c f r : Fact} → Gives n f c r → T (wellFormed f) → T (wellFormed c) → T (leb 4 n) → ((i : ℕ) → join c i f ≡ derivationLine n (suc i) i r) × Joint c f r
 unfolding join phase
 join-second sc-type u v t = (λ i. refl, sc-on refl refl refl refl refl)
 join-second (dom-data {A} {B} {X} {Y}) u v t = (λ i. refl, type-on (rw (name-of A (parts (fact A dom B) u .0) (parts (fact X A Y) v .1))) (inl refl) refl)
@@ -214,10 +214,10 @@ join-line c i f =
     (λ h. by-cases (eqb (f .predicate) range) (λ k. rw (e, g, h, k) second)
     (λ k. by-cases (eqb (c .predicate) sc) (λ l. rw (e, g, h, k, l) first) (λ l. rw (e, g, h, k, l) second)))))
   where
-    first : {n : ℕ} {r : Fact} → RuleLine i (line (suc n) i (suc i) r)
+    first : {n : ℕ} {r : Fact} → RuleLine i (derivationLine (suc n) i (suc i) r)
     first = record { by-rule = omega arith; premises = inl (refl, refl) }
 
-    second : {n : ℕ} {r : Fact} → RuleLine i (line (suc n) (suc i) i r)
+    second : {n : ℕ} {r : Fact} → RuleLine i (derivationLine (suc n) (suc i) i r)
     second = record { by-rule = omega arith; premises = inr (refl, refl) }
 
 joinAll-pairs : (c : Fact) (i : ℕ) (fs : List Fact) → Pairs i (joinAll c i fs)
@@ -264,11 +264,11 @@ record Goes (table : List Fact) (before : List Line) (d : List Line) (t : Fact) 
 
 -- the line that joins f to c is justified by the lines before and the table line of f
 joined-line : {table : List Fact} (before : List Line) {c f r : Fact} {i : ℕ} → Joined c f r → length before ≡ i → factOn before i ≡ some c
-    → Justified Rule table (before ++ (line 0 0 0 f ∷ [])) (join c i f) × (join c i f .fact ≡ r)
+    → Justified Rule table (before ++ (derivationLine 0 0 0 f ∷ [])) (join c i f) × (join c i f .fact ≡ r)
 joined-line before {f = f} {i = i} (on-first n b s) z h =
-    rw (join-first (s .gives) (s .first) (s .second) (s .result) b .0 i) (by-rule (factOn-left before _ i h) (factOn-snoc before (line 0 0 0 f) z) s, refl)
+    rw (join-first (s .gives) (s .first) (s .second) (s .result) b .0 i) (by-rule (factOn-left before _ i h) (factOn-snoc before (derivationLine 0 0 0 f) z) s, refl)
 joined-line before {f = f} {i = i} (on-second n b s) z h =
-    rw (join-second (s .gives) (s .first) (s .second) b .0 i) (by-rule (factOn-snoc before (line 0 0 0 f) z) (factOn-left before _ i h) s, refl)
+    rw (join-second (s .gives) (s .first) (s .second) b .0 i) (by-rule (factOn-snoc before (derivationLine 0 0 0 f) z) (factOn-left before _ i h) s, refl)
 
 print-joins : (table : List Fact) (before : List Line) (i : ℕ) {c t : Fact} {fs : List Fact} → length before ≡ i → factOn before i ≡ some c → Joins table c fs t
     → Goes table before (joinAll c i fs) t
@@ -277,8 +277,8 @@ print-joins table before i z h done = record { lines = tt; last = rw (append-nil
 print-joins table before i z h (more {c} {f} {r} {t} {fs} m j js) =
     let g = joined-line {table = table} before j z h in
     let l : Line = join c i f in
-    let y = length-snoc before (line 0 0 0 f) z in
-    let b : List Line = before ++ (line 0 0 0 f ∷ []) in
+    let y = length-snoc before (derivationLine 0 0 0 f) z in
+    let b : List Line = before ++ (derivationLine 0 0 0 f ∷ []) in
     let p = print-joins table (b ++ (l ∷ [])) (suc (suc i)) (length-snoc b l y) (factOn-snoc b l y ∙ ap some (g .1)) js in
     rw (g .1) (record { lines = (by-table m, (g .0, p .lines)); last = rw (append-snoc, append-snoc) at (p .last) })
 
@@ -286,7 +286,7 @@ print-joins table before i z h (more {c} {f} {r} {t} {fs} m j js) =
 pub printable : {table : List Fact} {t : Fact} {fs : List Fact} (l : Linear table t fs) → T (wellFormed (l .head)) → Printable table t fs
 unfolding printed Justify tableLines tableFacts factOn Alternates
 printable {table} {t} l w =
-    let p = print-joins table (line 0 0 0 (l .head) ∷ []) 1 refl refl (l .joins) in
+    let p = print-joins table (derivationLine 0 0 0 (l .head) ∷ []) 1 refl refl (l .joins) in
     let e : tableFacts (printed (l .head ∷ l .rest)) ≡ l .head ∷ l .rest = ap (λ (x : List Fact). l .head ∷ x) (joinAll-facts (l .head) 1 (l .rest)) in
     rw (l .all) (record {
       derives = record { lines = (by-table (l .head-in), p .lines); last = p .last };

@@ -57,10 +57,10 @@ start-data w t a n h =
     (λ e. let r = start-other w t a e h in ((cc), (cc), (cc)))
 
 -- what may follow: the next of a chain, or a fact by which a name is left
-abbrev pub Follows : ℕ → Fact → Fact → Type 0
-Follows w a b = (T (goesOn w a) × (b .predicate ≡ chain (property a))) ⊎ ((property a ≡ true) × (b .predicate ≡ w) × (named (b .subject) ≡ true))
+abbrev pub Succeeds : ℕ → Fact → Fact → Type 0
+Succeeds w a b = (T (goesOn w a) × (b .predicate ≡ chain (property a))) ⊎ ((property a ≡ true) × (b .predicate ≡ w) × (named (b .subject) ≡ true))
 
-pub next-says : (w : ℕ) (a b : Fact) → T (next w a b) → (b .subject ≡ link a) × Follows w a b
+pub next-says : (w : ℕ) (a b : Fact) → T (next w a b) → (b .subject ≡ link a) × Succeeds w a b
 unfolding next
 next-says w a b h =
     let on : Bool = goesOn w a && eqb (b .predicate) (chain (property a)) in
@@ -73,11 +73,11 @@ next-says w a b h =
           (or-yes on (by && named (b .subject)) (r .1)),
     )
 
-next-is : (w : ℕ) (a b : Fact) → b .subject ≡ link a → Follows w a b → T (next w a b)
+next-is : (w : ℕ) (a b : Fact) → b .subject ≡ link a → Succeeds w a b → T (next w a b)
 unfolding next
 next-is w a b e f = yes-and (eqb (b .subject) (link a)) _ (yes-eqb e) (go f)
   where
-    go : Follows w a b → T (goesOn w a && eqb (b .predicate) (chain (property a)) || property a && eqb (b .predicate) w && named (b .subject))
+    go : Succeeds w a b → T (goesOn w a && eqb (b .predicate) (chain (property a)) || property a && eqb (b .predicate) w && named (b .subject))
     go (inl (g, q)) = or-l (goesOn w a && eqb (b .predicate) (chain (property a))) _ (yes-and (goesOn w a) _ g (yes-eqb q))
     go (inr (p, q, n)) =
         or-r (goesOn w a && eqb (b .predicate) (chain (property a))) _ (yes-and (property a && eqb (b .predicate) w) _ (yes-and (property a) _ (T-of _ p) (yes-eqb q)) (T-of _ n))

@@ -19,7 +19,7 @@ use Rattle.rules.specs.Graph.{_∈_, Path, first, step, nodes}
 use Rattle.rules.specs.Rules.{sp-sp, sp-data, sc-sc, sc-type, dom-data, range-data}
 use Rattle.rules.specs.Paths.{named, link, property, chain, next, typed, onlyTable, start, goal, ways, HasPath}
 use Rattle.rules.specs.Printed.{Printable, behind, printOrder}
-use Rattle.rules.proofs.Paths.{plain, link-vocabulary, link-data, property-data, property-of, start-data, start-other, next-says, Follows, goal-says, only-path, only-says, chain-name, chain-property, Open, is-sc, is-sp, is-type, open-of}
+use Rattle.rules.proofs.Paths.{plain, link-vocabulary, link-data, property-data, property-of, start-data, start-other, next-says, Succeeds, goal-says, only-path, only-says, chain-name, chain-property, Open, is-sc, is-sp, is-type, open-of}
 use Rattle.rules.proofs.Joins.{Joined, on-first, on-second, Joins, done, more, Linear, printable}
 
 -- ---- one more fact
@@ -250,7 +250,7 @@ module _ (table : List Fact) (wf : (f : Fact) → f ∈ table → T (wellFormed 
           (of-facts (last (c .2)) (of-fact (fact-eq _ (fact (t .subject) (t .predicate) (link b)) (start-typed w t q n y s) (sym y) (sym (c .0))) g))
           (of-type t y .1 ∙ sym (c .1)) (λ p. absurd (true≢false (sym p ∙ of-type t y .1)))
 
-      go : Shown w t a path → Follows w a b → Shown w t b (path ++ (b ∷ []))
+      go : Shown w t a path → Succeeds w a b → Shown w t b (path ++ (b ∷ []))
       go h (inl (g, e)) = chained e h
       go h (inr (p, e, u)) =
           by-cases (eqb (t .predicate) type)

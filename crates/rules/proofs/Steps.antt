@@ -18,7 +18,7 @@ use Rattle.facts.proofs.Facts.{fact-eq}
 use Rattle.rules.specs.declared.Row.{Row}
 use Rattle.rules.specs.Graph.{any}
 use Rattle.rules.specs.Rules.{Gives, sp-sp, sp-data, sc-sc, sc-type, dom-data, range-data, Rule}
-use Rattle.rules.specs.Derivations.{Line, line, factOn, Justified, by-table, by-rule}
+use Rattle.rules.specs.Derivations.{Line, derivationLine, factOn, Justified, by-table, by-rule}
 use Rattle.rules.specs.Steps.{same, rows, row, fill, fitsRow, gives, stepTest, stepFrom, justified}
 use Rattle.rules.proofs.Tests.{any-in, in-any}
 
@@ -96,7 +96,7 @@ rule-numbered p q r s = T-of (gives 0 p q r) (gives-is (s .gives))
 
 -- ---- a line
 
-line-eq : (l : Line) (n i j : ℕ) → l .rule ≡ n → l .first ≡ i → l .second ≡ j → l ≡ line n i j (l .fact)
+line-eq : (l : Line) (n i j : ℕ) → l .rule ≡ n → l .first ≡ i → l .second ≡ j → l ≡ derivationLine n i j (l .fact)
 line-eq l n i j e f g = λ x. record { rule = e x; first = f x; second = g x; fact = l .fact }
 
 pub justified-is : {table : List Fact} {before : List Line} {l : Line} → Justified Rule table before l → T (justified table before l)

@@ -16,8 +16,8 @@ abbrev pub Relation : Type 1
 Relation = ℕ → Fact → Fact → Fact → Type 0
 
 -- a derivation line: rule number (0 for a table line), the line numbers of its premises, and its fact
-abbrev pub line : ℕ → ℕ → ℕ → Fact → Line
-line n i j f = record { rule = n; first = i; second = j; fact = f }
+abbrev pub derivationLine : ℕ → ℕ → ℕ → Fact → Line
+derivationLine n i j f = record { rule = n; first = i; second = j; fact = f }
 
 -- the fact on line n of d, counted from 1
 unfoldable pub factOn : List Line → ℕ → Option Fact
@@ -28,8 +28,8 @@ factOn (l ∷ d) (suc (suc n)) = factOn d (suc n)
 
 -- a line is a table line, or a rule gives it from two lines before it
 pub data Justified (R : Relation) (table : List Fact) (before : List Line) : Line → Type 0 where
-  by-table : {f : Fact} → f ∈ table → Justified R table before (line 0 0 0 f)
-  by-rule : {n i j : ℕ} {p q r : Fact} → factOn before i ≡ some p → factOn before j ≡ some q → R n p q r → Justified R table before (line n i j r)
+  by-table : {f : Fact} → f ∈ table → Justified R table before (derivationLine 0 0 0 f)
+  by-rule : {n i j : ℕ} {p q r : Fact} → factOn before i ≡ some p → factOn before j ≡ some q → R n p q r → Justified R table before (derivationLine n i j r)
 
 -- each line of d, which stands behind the lines `before`, is justified by the lines before it
 unfoldable pub Justify : Relation → List Fact → List Line → List Line → Type 0

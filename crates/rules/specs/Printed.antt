@@ -10,7 +10,7 @@ use Rattle.facts.specs.declared.Fact.{Fact}
 use Rattle.facts.specs.Terms.{kindOf, sc, sp, dom, range, type}
 use Rattle.facts.specs.Facts.{fact}
 use Rattle.rules.specs.Rules.{Rule}
-use Rattle.rules.specs.Derivations.{Line, line, Derives, tableLines}
+use Rattle.rules.specs.Derivations.{Line, derivationLine, Derives, tableLines}
 use Rattle.rules.specs.Order.{InOrder}
 use Rattle.rules.specs.Paths.{named}
 
@@ -18,24 +18,24 @@ use Rattle.rules.specs.Paths.{named}
 unfoldable pub join : Fact → ℕ → Fact → Line
 unfolding kindOf
 join c i f =
-    cond (named (f .predicate)) (line 2 i (suc i) (fact (f .subject) (c .object) (f .object)))
-    (cond (eqb (f .predicate) sp) (line 1 i (suc i) (fact (c .subject) sp (f .object)))
-    (cond (eqb (f .predicate) dom) (line 5 (suc i) i (fact (c .subject) type (f .object)))
-    (cond (eqb (f .predicate) range) (line 6 (suc i) i (fact (c .object) type (f .object)))
-    (cond (eqb (c .predicate) sc) (line 3 i (suc i) (fact (c .subject) sc (f .object)))
-    (line 4 (suc i) i (fact (c .subject) type (f .object)))))))
+    cond (named (f .predicate)) (derivationLine 2 i (suc i) (fact (f .subject) (c .object) (f .object)))
+    (cond (eqb (f .predicate) sp) (derivationLine 1 i (suc i) (fact (c .subject) sp (f .object)))
+    (cond (eqb (f .predicate) dom) (derivationLine 5 (suc i) i (fact (c .subject) type (f .object)))
+    (cond (eqb (f .predicate) range) (derivationLine 6 (suc i) i (fact (c .object) type (f .object)))
+    (cond (eqb (c .predicate) sc) (derivationLine 3 i (suc i) (fact (c .subject) sc (f .object)))
+    (derivationLine 4 (suc i) i (fact (c .subject) type (f .object)))))))
 
 -- each fact on a table line, and after it the line that joins it to the result so far, c on line i
 unfoldable pub joinAll : Fact → ℕ → List Fact → List Line
 unfolding join
 joinAll c i [] = []
-joinAll c i (f ∷ fs) = line 0 0 0 f ∷ join c i f ∷ joinAll (join c i f .fact) (suc (suc i)) fs
+joinAll c i (f ∷ fs) = derivationLine 0 0 0 f ∷ join c i f ∷ joinAll (join c i f .fact) (suc (suc i)) fs
 
 -- the derivation printed for a list of facts
 unfoldable pub printed : List Fact → List Line
 unfolding joinAll
 printed [] = []
-printed (f ∷ fs) = line 0 0 0 f ∷ joinAll f 1 fs
+printed (f ∷ fs) = derivationLine 0 0 0 f ∷ joinAll f 1 fs
 
 -- a fact and then others, with the fact behind the sp facts that begin them
 unfoldable pub behind : Fact → List Fact → List Fact

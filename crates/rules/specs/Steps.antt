@@ -31,18 +31,18 @@ abbrev pub object-2 : ℕ
 object-2 = 9
 
 -- a rule as a row: the predicate of the first premise, the second premise, what it gives
-abbrev rowOf : ℕ → Fact → Fact → Row
-rowOf p q r = record { first = p; second = q; result = r }
+abbrev ruleRow : ℕ → Fact → Fact → Row
+ruleRow p q r = record { first = p; second = q; result = r }
 
 -- the six rules in order
 unfoldable pub rows : List Row
 rows =
-    rowOf sp (fact object-1 sp object-2) (fact subject-1 sp object-2)
-    ∷ rowOf sp (fact subject-2 subject-1 object-2) (fact subject-2 object-1 object-2)
-    ∷ rowOf sc (fact object-1 sc object-2) (fact subject-1 sc object-2)
-    ∷ rowOf sc (fact subject-2 type subject-1) (fact subject-2 type object-1)
-    ∷ rowOf dom (fact subject-2 subject-1 object-2) (fact subject-2 type object-1)
-    ∷ rowOf range (fact subject-2 subject-1 object-2) (fact object-2 type object-1)
+    ruleRow sp (fact object-1 sp object-2) (fact subject-1 sp object-2)
+    ∷ ruleRow sp (fact subject-2 subject-1 object-2) (fact subject-2 object-1 object-2)
+    ∷ ruleRow sc (fact object-1 sc object-2) (fact subject-1 sc object-2)
+    ∷ ruleRow sc (fact subject-2 type subject-1) (fact subject-2 type object-1)
+    ∷ ruleRow dom (fact subject-2 subject-1 object-2) (fact subject-2 type object-1)
+    ∷ ruleRow range (fact subject-2 subject-1 object-2) (fact object-2 type object-1)
     ∷ []
 
 -- what a cell stands for, with p and q for the premises
@@ -63,7 +63,7 @@ fitsRow w p q r = eqb (p .predicate) (w .first) && same q (fill (w .second) p q)
 -- the row of rule n
 unfoldable pub row : ℕ → Row
 unfolding rows
-row n = getD rows (n - 1) (rowOf 0 (fact 0 0 0) (fact 0 0 0))
+row n = getD rows (n - 1) (ruleRow 0 (fact 0 0 0) (fact 0 0 0))
 
 -- rule n gives r from p and q
 unfoldable pub gives : ℕ → Fact → Fact → Fact → Bool

@@ -19,7 +19,7 @@ ghost use Rattle.columns.specs.Lines.{over};
 ghost use Rattle.rules.specs.Graph.{least};
 ghost use Rattle.rules.specs.Chosen.{chosenBy};
 ghost use Rattle.question.specs.Row.{factsOf, Rising};
-ghost use Rattle.question.specs.Trace.{orElse, single, ending, Queued, Stepping, Stepped, FirstEnd, Traceable};
+ghost use Rattle.question.specs.Trace.{placeOr, single, ending, Queued, Stepping, Stepped, FirstEnd, Traceable};
 ghost use Rattle.question.specs.State.{Early};
 
 // The first place that is marked m and that b may follow, or n: of the queue, the part behind the lower marks is passed.
@@ -60,7 +60,7 @@ fn before(
 // The first fact that is a path for t by itself, or n.
 fn first_alone(row: &[u32], n: usize, w: u32, t: Fact) -> usize
     requires { ⌜ Rising (now row) n ⌝ }
-    ensures { λ r. ⌜ r ≡ orElse n (least (single (now (row .entry)) w t) 0 n) ⌝ }
+    ensures { λ r. ⌜ r ≡ placeOr n (least (single (now (row .entry)) w t) 0 n) ⌝ }
 {
     let mut j = 0;
     while j < n {
@@ -107,7 +107,7 @@ fn last(
     top: usize,
 ) -> usize
     requires { ⌜ Stepping (now row) n (now mark) (now queue) m top × Early (now row) n w t (now mark) (now queue) m from ⌝ }
-    ensures { λ r. ⌜ r ≡ orElse n (least (ending (now (row .entry)) n w (now (mark .entry)) t m) 0 n) ⌝ }
+    ensures { λ r. ⌜ r ≡ placeOr n (least (ending (now (row .entry)) n w (now (mark .entry)) t m) 0 n) ⌝ }
 {
     let mut best = n;
     let mut done = [0u8; NOTES];
@@ -141,7 +141,7 @@ fn path_end(
     top: usize,
 ) -> usize
     requires { ⌜ Rising (now row) n × Queued n (now mark) (now queue) m top × Early (now row) n w t (now mark) (now queue) m from ⌝ }
-    ensures { λ r. ⌜ r ≡ orElse n (least (ending (now (row .entry)) n w (now (mark .entry)) t m) 0 n) ⌝ }
+    ensures { λ r. ⌜ r ≡ placeOr n (least (ending (now (row .entry)) n w (now (mark .entry)) t m) 0 n) ⌝ }
 {
     if m == 0 {
         return first_alone(row, n, w, t);

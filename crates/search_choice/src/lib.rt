@@ -15,13 +15,13 @@ ghost use Prim.Native.Nat.{_+_, _≤_, _<_};
 ghost use lib.ListN.{length};
 ghost use Rattle.rules.specs.Graph.{least};
 ghost use Rattle.question.specs.Row.{Rising, Sorted};
-ghost use Rattle.question.specs.Trace.{orElse, into};
-ghost use Rattle.question.specs.Answer.{Given, Gives, Answers};
+ghost use Rattle.question.specs.Trace.{placeOr, into};
+ghost use Rattle.question.specs.Answer.{Given, FindsBy, Finds};
 
 // What one search found, with the places of its path.
 pub fn answer(row: &[u32], n: usize, w: u32, t: Fact, r: Reached, path: &mut [u16]) -> Found
     requires { ⌜ Given (now row) n w t (r .facts) (r .state) (length (now path)) ⌝ }
-    ensures { λ g. ⌜ Gives (now (row .entry)) n w t (r .facts) (now (path .entry)) (now (path .exit)) g ⌝ }
+    ensures { λ g. ⌜ FindsBy (now (row .entry)) n w t (r .facts) (now (path .entry)) (now (path .exit)) g ⌝ }
 {
     let facts = r.facts;
     if facts == 0 {
@@ -35,7 +35,7 @@ pub fn answer(row: &[u32], n: usize, w: u32, t: Fact, r: Reached, path: &mut [u1
 // The first data fact with the object x, or n.
 fn first_into(row: &[u32], n: usize, x: u32) -> usize
     requires { ⌜ Rising (now row) n ⌝ }
-    ensures { λ r. ⌜ r ≡ orElse n (least (into (now (row .entry)) x) 0 n) ⌝ }
+    ensures { λ r. ⌜ r ≡ placeOr n (least (into (now (row .entry)) x) 0 n) ⌝ }
 {
     let mut j = 0;
     while j < n {
@@ -52,7 +52,7 @@ fn first_into(row: &[u32], n: usize, x: u32) -> usize
 // also one by dom begins with a data fact whose object is the subject, so without one the search by dom is enough.
 fn by_type(row: &[u32], n: usize, t: Fact, path: &mut [u16]) -> Found
     requires { ⌜ Rising (now row) n × (n ≤ length (now path)) × (t .predicate ≡ 5) ⌝ }
-    ensures { λ r. ⌜ Answers (now (row .entry)) n t (now (path .entry)) (now (path .exit)) r ⌝ }
+    ensures { λ r. ⌜ Finds (now (row .entry)) n t (now (path .entry)) (now (path .exit)) r ⌝ }
 {
     let a = reach(row, n, DOM, t);
     if n <= first_into(row, n, t.subject) {
@@ -75,7 +75,7 @@ fn by_type(row: &[u32], n: usize, t: Fact, path: &mut [u16]) -> Found
 // The number of facts on the chosen path for t over the n facts of the row, and its places.
 pub fn shortest(row: &[u32], n: usize, t: Fact, path: &mut [u16]) -> Found
     requires { ⌜ Sorted (now row) n × (n ≤ length (now path)) ⌝ }
-    ensures { λ r. ⌜ Answers (now (row .entry)) n t (now (path .entry)) (now (path .exit)) r ⌝ }
+    ensures { λ r. ⌜ Finds (now (row .entry)) n t (now (path .entry)) (now (path .exit)) r ⌝ }
 {
     if t.predicate == TYPE {
         return by_type(row, n, t, path);

@@ -17,7 +17,7 @@ ghost use Prim.Native.Nat.{_+_, _*_, _≤_, _<_};
 ghost use lib.ListN.{length};
 ghost use Rattle.columns.specs.Lines.{over};
 ghost use Rattle.facts.specs.Facts.{fact};
-ghost use Rattle.rules.specs.Derivations.{line};
+ghost use Rattle.rules.specs.Derivations.{derivationLine};
 ghost use Rattle.rules.specs.Printed.{join, printed};
 ghost use Rattle.derivation.specs.Bytes.{derivationBytes};
 ghost use Rattle.question.specs.Order.{Placed, Run, Rotated, InPrint, Printing, factsAt};
@@ -68,7 +68,7 @@ pub fn print_order(row: &[u32], n: usize, f: usize, path: &mut [u16])
 
 // A derivation line.
 fn line_of(rule: u32, first: u32, second: u32, subject: u32, predicate: u32, object: u32) -> Line
-    ensures { λ r. ⌜ r ≡ line rule first second (fact subject predicate object) ⌝ }
+    ensures { λ r. ⌜ r ≡ derivationLine rule first second (fact subject predicate object) ⌝ }
 {
     let f = Fact {
         subject: subject,
@@ -85,7 +85,7 @@ fn line_of(rule: u32, first: u32, second: u32, subject: u32, predicate: u32, obj
 
 // A table line.
 fn table_line(f: Fact) -> Line
-    ensures { λ r. ⌜ r ≡ line 0 0 0 f ⌝ }
+    ensures { λ r. ⌜ r ≡ derivationLine 0 0 0 f ⌝ }
 {
     Line {
         rule: 0,
@@ -127,7 +127,7 @@ fn join_line(c: Fact, i: u32, f: Fact) -> Line
 fn put_joined(c: Fact, i: u32, f: Fact, out: &mut [u8]) -> Fact
     requires { ⌜ (i < 4096) × (62 ≤ length (now out)) ⌝ }
     ensures result { λ r. ⌜ r ≡ join c i f .fact ⌝ }
-    ensures lines { λ _. ⌜ now (out .exit) ≡ over (derivationBytes (line 0 0 0 f ∷ join c i f ∷ [])) (now (out .entry)) ⌝ }
+    ensures lines { λ _. ⌜ now (out .exit) ≡ over (derivationBytes (derivationLine 0 0 0 f ∷ join c i f ∷ [])) (now (out .entry)) ⌝ }
 {
     let first = table_line(f);
     put_line(first, out);

@@ -18,12 +18,12 @@ use Rattle.facts.specs.declared.Refusal.{Refusal}
 use Rattle.facts.specs.declared.Refusal.the-variants.{Order}
 use Rattle.facts.specs.declared.Verdict.{Verdict}
 use Rattle.facts.specs.declared.Verdict.the-variants.{Sound, Faulty}
-use Rattle.facts.specs.Facts.{wellFormed, faultOf, before}
+use Rattle.facts.specs.Facts.{wellFormed, faultOf, before, orElse}
 use Rattle.facts.proofs.Terms.{T-of, of-T}
 use Rattle.facts.proofs.Facts.{fault-none}
 use Rattle.table.specs.declared.Scan.the-variants.{Passes, Stops}
 use Rattle.table.specs.Scans.{above, earns, tried, firstEarned, onward, scan}
-use Rattle.table.specs.Judged.{orElse, judged}
+use Rattle.table.specs.Judged.{judged}
 use Rattle.table.specs.Tables.{ascending, allFormed}
 use Rattle.table.proofs.Scans.{judged-line}
 

@@ -12,11 +12,11 @@ use Rattle.facts.specs.declared.Refusal.{Refusal}
 use Rattle.facts.specs.declared.Refusal.the-variants.{Term, Blank, Part, Order}
 use Rattle.facts.specs.declared.Verdict.{Verdict}
 use Rattle.facts.specs.declared.Verdict.the-variants.{Sound, Faulty}
-use Rattle.facts.specs.Facts.{hasNoTerm, hasBlank, misplaced, faultOf, before}
+use Rattle.facts.specs.Facts.{hasNoTerm, hasBlank, misplaced, faultOf, before, orElse}
 use Rattle.facts.proofs.Terms.{by-cases}
 use Rattle.table.specs.declared.Scan.the-variants.{Passes, Stops}
 use Rattle.table.specs.Scans.{above, earns, tried, firstEarned, onward, scan}
-use Rattle.table.specs.Judged.{orElse, judged}
+use Rattle.table.specs.Judged.{judged}
 
 -- tests in a row, the last of them apart
 in-turn : (a b c d : Bool) (x y z w : Refusal)

@@ -66,7 +66,7 @@ rows-numbers row n (suc m) i e h =
 
 -- ---- accepted tables
 
-accepted-says : (b : List ℕ) (facts : List Fact) → tableOf b ≡ accepted facts → (b ≡ tableBytes facts) × tables.Sound facts
+accepted-says : (b : List ℕ) (facts : List Fact) → tableOf b ≡ accepted facts → (b ≡ tableBytes facts) × tables.TableFacts facts
 unfolding tableScan lineVerdict
 accepted-says b facts e =
     let size = accepted-size b facts e in
@@ -77,7 +77,7 @@ accepted-says b facts e =
       record { formed = rw all at (s .1); ascends = rw all at (s .2); few = size .1 },
     )
 
-accepted-is : (facts : List Fact) → tables.Sound facts → tableOf (tableBytes facts) ≡ accepted facts
+accepted-is : (facts : List Fact) → tables.TableFacts facts → tableOf (tableBytes facts) ≡ accepted facts
 unfolding tableOf tableScan lineVerdict meant
 accepted-is facts s =
     let b = tableBytes facts in
@@ -87,10 +87,10 @@ accepted-is facts s =
 
 -- the bytes are the table of these facts exactly where they are the facts' lines, and the facts are well-formed, strictly ascending and
 -- at most 1,024
-pub tableOf-accepted : (b : List ℕ) (facts : List Fact) → tableOf b ≡ accepted facts ↔ ((b ≡ tableBytes facts) × tables.Sound facts)
+pub tableOf-accepted : (b : List ℕ) (facts : List Fact) → tableOf b ≡ accepted facts ↔ ((b ≡ tableBytes facts) × tables.TableFacts facts)
 tableOf-accepted b facts = (accepted-says b facts, λ h. rw (h .0) (accepted-is facts (h .1)))
 
-row-says : (row : List ℕ) (facts : List Fact) → tableOfRow row ≡ accepted facts → (row ≡ rowOf facts) × tables.Sound facts
+row-says : (row : List ℕ) (facts : List Fact) → tableOfRow row ≡ accepted facts → (row ≡ rowOf facts) × tables.TableFacts facts
 unfolding rowScan rowVerdict
 row-says row facts e =
     let size = row-size row facts e in
@@ -101,7 +101,7 @@ row-says row facts e =
       record { formed = rw all at (s .1); ascends = rw all at (s .2); few = size .1 },
     )
 
-row-is : (facts : List Fact) → tables.Sound facts → tableOfRow (rowOf facts) ≡ accepted facts
+row-is : (facts : List Fact) → tables.TableFacts facts → tableOfRow (rowOf facts) ≡ accepted facts
 unfolding tableOfRow rowScan rowVerdict meant
 row-is facts s =
     let row = rowOf facts in
@@ -110,7 +110,7 @@ row-is facts s =
     rw (sized-fits 3 3072 (length row) (omega (arith, row-length facts)) (omega (arith, row-length facts, s .few)), n, p .0) (ap accepted (p .1))
 
 -- the same of a row to write
-pub tableOfRow-accepted : (row : List ℕ) (facts : List Fact) → tableOfRow row ≡ accepted facts ↔ ((row ≡ rowOf facts) × tables.Sound facts)
+pub tableOfRow-accepted : (row : List ℕ) (facts : List Fact) → tableOfRow row ≡ accepted facts ↔ ((row ≡ rowOf facts) × tables.TableFacts facts)
 tableOfRow-accepted row facts = (row-says row facts, λ h. rw (h .0) (row-is facts (h .1)))
 
 -- the terms of an accepted table fit 16 bits
@@ -168,8 +168,8 @@ unfolding firstEarned
 none-is e [] n = refl
 none-is e (r ∷ rs) n = rw (n r (List·Memᴰ·head refl)) (none-is e rs (λ q m. n q (List·Memᴰ·tail m)))
 
-pub first-none : (e : Refusal → Bool) (rs : List Refusal) → firstEarned e rs ≡ Sound ↔ ((q : Refusal) → List·Memᴰ q rs → e q ≡ false)
-first-none e rs = (none-says e rs, none-is e rs)
+pub none-earned : (e : Refusal → Bool) (rs : List Refusal) → firstEarned e rs ≡ Sound ↔ ((q : Refusal) → List·Memᴰ q rs → e q ≡ false)
+none-earned e rs = (none-says e rs, none-is e rs)
 
 -- one of them is found exactly where it is the first that is earned
 pub first-earned : (e : Refusal → Bool) (rs : List Refusal) (r : Refusal) → firstEarned e rs ≡ Faulty r ↔ First e rs r

@@ -10,14 +10,9 @@ use Rattle.facts.specs.declared.Fact.{Fact}
 use Rattle.facts.specs.declared.Refusal.the-variants.{Order}
 use Rattle.facts.specs.declared.Verdict.{Verdict}
 use Rattle.facts.specs.declared.Verdict.the-variants.{Sound, Faulty}
-use Rattle.facts.specs.Facts.{faultOf, before}
+use Rattle.facts.specs.Facts.{faultOf, orElse, before}
 use Rattle.table.specs.declared.Judged.{Judged}
 use Rattle.table.specs.Tables.{lineFact, lineVerdict}
-
--- a verdict, or else another
-unfoldable pub orElse : Verdict → Verdict → Verdict
-orElse Sound v = v
-orElse (Faulty r) v = Faulty r
 
 -- the first of 3 to 6 that f earns, with last the fact before it, if it is not the first
 unfoldable pub judged : Bool → Fact → Fact → Verdict

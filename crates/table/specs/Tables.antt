@@ -98,7 +98,7 @@ allFormed [] = true
 allFormed (f ∷ fs) = wellFormed f && allFormed fs
 
 -- facts that make up a table
-pub record Sound (facts : List Fact) : Type 0 where
+pub record TableFacts (facts : List Fact) : Type 0 where
   pub formed : T (allFormed facts)
   pub ascends : T (ascending facts)
   pub few : length facts ≤ 1024

@@ -7,7 +7,7 @@ use borrow.Author.Needs.{needs}
 use Rattle.table.specs.Tables.{tableOf}
 use Rattle.table.proofs.Rows.{scan-passes, scan-stops}
 use Rattle.acceptance.specs.Check.{checkAnswer, tableAnswer, factAnswer}
-use Rattle.acceptance.proofs.Accepts.{judged}
+use Rattle.acceptance.proofs.Accepts.{check-told}
 use Rattle.acceptance.proofs.Loaded.{loaded-facts, loaded-ascends}
 use Rattle.checker.proofs.check.Statement.{statement}
 use Rattle.checker.proofs.check.Tie as tie
@@ -48,7 +48,7 @@ check-derivation-requires c κs =
 
 returns : tie.Need-returns
 unfolding checkAnswer tableAnswer
-returns c = let b = now (c .before .before .before .before .before .before .before .before .args .table) in judged _ _ _ _ (rw (scan-stops (tableOf b) _ _ (sym (c .before .before .before .before .load .ensures .0) ∙ c .before .r .given .1)))
+returns c = let b = now (c .before .before .before .before .before .before .before .before .args .table) in check-told _ _ _ _ (rw (scan-stops (tableOf b) _ _ (sym (c .before .before .before .before .load .ensures .0) ∙ c .before .r .given .1)))
 
 returns-2 : tie.Need-returns-2
 unfolding checkAnswer tableAnswer factAnswer
@@ -56,7 +56,7 @@ returns-2 c =
     let b = now (c .before .before .before .before .before .before .before .before .before .before .before .before .args .table) in
     let p = scan-passes (tableOf b) (c .before .before .before .before .before .n .given .0 .0) (sym (c .before .before .before .before .before .before .before .before .load .ensures .0) ∙ c .before .before .before .before .before .n .given .1) in
     let e = sym (c .before .before .before .fault .ensures) ∙ c .before .r2 .given .1 in
-    judged _ _ _ _ (rw (p .1, e))
+    check-told _ _ _ _ (rw (p .1, e))
 
 returns-3 : tie.Need-returns-3
 unfolding checkAnswer tableAnswer factAnswer
@@ -65,7 +65,7 @@ returns-3 c =
     let p = scan-passes (tableOf b) (c .before .before .before .before .before .before .n .given .0 .0) (sym (c .before .before .before .before .before .before .before .before .before .load .ensures .0) ∙ c .before .before .before .before .before .before .n .given .1) in
     let l = c .before .before .before .before .before .before .before .before .before .load in
     let e = sym (c .before .before .before .before .fault .ensures) ∙ c .before .before .enum-told .given .1 in
-    judged _ _ _ _ (rw (p .1, e, ← loaded-facts b (p .0) (p .1) (l .last .1 .0) _ (l .ensures .1) _ (p .2)) (c .check-derivation .ensures))
+    check-told _ _ _ _ (rw (p .1, e, ← loaded-facts b (p .0) (p .1) (l .last .1 .0) _ (l .ensures .1) _ (p .2)) (c .check-derivation .ensures))
 
 pub check-spec : {M : Type 1} → statement M
 check-spec =

@@ -2,7 +2,7 @@
 -- Assumes nothing.
 use mathlib.Core.Path.{sym, _∙_}
 use borrow.Author.Tests.{le-leb, lt-leb}
-use Rattle.table.specs.Judged.{orElse}
+use Rattle.facts.specs.Facts.{orElse}
 use Rattle.question.specs.Question.{needed, asked, questionFault}
 use borrow.Author.Needs.{needs}
 use Rattle.search.proofs.verdict.Statement.{statement}

@@ -11,7 +11,7 @@ use Rattle.rules.specs.Graph.{least}
 use Rattle.table.specs.Tables.{rowFact}
 use Rattle.question.specs.declared.State.{State}
 use Rattle.question.specs.State.{Met}
-use Rattle.question.specs.Trace.{orElse, ending, beforeOf, Queued}
+use Rattle.question.specs.Trace.{placeOr, ending, beforeOf, Queued}
 use Rattle.question.proofs.Steps.{all-queued}
 use Rattle.question.proofs.Back.{Reading, reading-start, reading-step, reading-end, over-set}
 use Rattle.search_back.proofs.trace.Statement.{statement}
@@ -20,7 +20,7 @@ use Rattle.search_back.proofs.trace.Tie as tie
 abbrev Inv-loop : tie.InvT-loop
 Inv-loop row n w f path₀ mark queue from top₀ i₀ j₀ path top i j =
     Queued n mark queue i top
-    × ((t : Fact) (s : State) (m : Met row n w t f s) → s .mark ≡ mark → f ≡ suc i₀ → j₀ ≡ orElse n (least (ending row n w (s .mark) t i₀) 0 n) → Reading row n w t f s m path₀ i j path)
+    × ((t : Fact) (s : State) (m : Met row n w t f s) → s .mark ≡ mark → f ≡ suc i₀ → j₀ ≡ placeOr n (least (ending row n w (s .mark) t i₀) 0 n) → Reading row n w t f s m path₀ i j path)
 
 abbrev μ-loop : tie.MeasureT-loop
 μ-loop row n w f path₀ mark queue from top₀ i₀ j₀ path top i j = i

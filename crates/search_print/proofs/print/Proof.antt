@@ -13,7 +13,7 @@ use Rattle.columns.proofs.Parts.{part-more}
 use Rattle.facts.specs.declared.Fact.{Fact}
 use Rattle.table.specs.Tables.{rowFact}
 use Rattle.rules.specs.declared.Line.{Line}
-use Rattle.rules.specs.Derivations.{line}
+use Rattle.rules.specs.Derivations.{derivationLine}
 use Rattle.rules.specs.Printed.{join}
 use Rattle.derivation.specs.Bytes.{lineBytes, derivationBytes}
 use Rattle.derivation.proofs.Bytes.{derivation-length}
@@ -38,7 +38,7 @@ first-line : (c : tie.After-put-line Inv-loop μ-loop) → let z = c .before .be
 first-line c =
     let z = c .before .before .before .before .before .before .before .before .before in
     let f = c .before .before .before .row-fact .ensures ∙ ap (rowFact (z .args .row .now)) (c .before .before .before .before .wide .ensures) in
-    let l = c .before .before .table-line .ensures ∙ ap (line 0 0 0) f in
+    let l = c .before .before .table-line .ensures ∙ ap (derivationLine 0 0 0) f in
     c .put-line .ensures ∙ ap (λ (x : List ℕ). over x (z .args .out .now)) (ap lineBytes l ∙ sym (bytes-first (factAt (z .args .row .now) (z .args .path .now))))
 
 shared-slice-read-wide : tie.Need-shared-slice-read-wide Inv-loop μ-loop
@@ -182,7 +182,7 @@ loop-again c =
     let g = factAt (z .args .row .now) (z .args .path .now) in
     let here : c .before .before .before .before .row-fact2 .result ≡ g (l .k) = c .before .before .before .before .row-fact2 .ensures ∙ ap (rowFact (z .args .row .now))
     (c .before .before .before .before .before .wide2 .ensures) in
-    let new : List Line = line 0 0 0 (g (l .k)) ∷ join (resultAt g (l .k)) (2 * l .k - 1) (g (l .k)) ∷ [] in
+    let new : List Line = derivationLine 0 0 0 (g (l .k)) ∷ join (resultAt g (l .k)) (2 * l .k - 1) (g (l .k)) ∷ [] in
     let m = bytes-more g (l .k) (l .inv .0) in
     let long : length (derivationBytes new) ≡ 62 = derivation-length new in
     let room : l .at + length (derivationBytes new) ≤ length o = omega (

@@ -5,9 +5,9 @@ use native.Mathlib.Omega.{arith}
 use Rattle.columns.proofs.Lines.{line-length}
 use Rattle.columns.proofs.Parts.{part-more}
 use Rattle.rules.specs.declared.Line.{Line}
-use Rattle.rules.specs.Derivations.{line}
+use Rattle.rules.specs.Derivations.{derivationLine}
 use Rattle.rules.specs.Printed.{join}
-use Rattle.derivation.specs.Bytes.{numbers, lineBytes}
+use Rattle.derivation.specs.Bytes.{lineNumbers, lineBytes}
 use mathlib.Core.List.{List}
 use Prim.Native.Nat.{ℕ}
 use Rattle.columns.specs.Lines.{over}
@@ -47,12 +47,12 @@ returns c =
     let q = c .before .before .before .put-line2 in
     let one = c .before .before .before .before .before .before .before .before .before .before .table-line .ensures in
     let two = c .before .before .before .before .before .join-line .ensures in
-    let a = lineBytes (line 0 0 0 (z .args .f)) in
+    let a = lineBytes (derivationLine 0 0 0 (z .args .f)) in
     let b = lineBytes (join (z .args .c) (z .args .i) (z .args .f)) in (
       ap (λ (l : Line). l .fact) two,
-      part-more (p .last .1 .0) a b (z .args .out .now) (q .last .1 .0) 31 (p .ensures ∙ rw one) (p .kept .1 .0) (line-length (numbers (line 0 0 0 (z .args .f))))
+      part-more (p .last .1 .0) a b (z .args .out .now) (q .last .1 .0) 31 (p .ensures ∙ rw one) (p .kept .1 .0) (line-length (lineNumbers (derivationLine 0 0 0 (z .args .f))))
           (rw line-length (omega (arith, z .pre .1))) (q .ensures ∙ rw two)
-          ∙ ap (λ (l : List ℕ). over l (z .args .out .now)) (sym (two-lines (line 0 0 0 (z .args .f)) (join (z .args .c) (z .args .i) (z .args .f)))),
+          ∙ ap (λ (l : List ℕ). over l (z .args .out .now)) (sym (two-lines (derivationLine 0 0 0 (z .args .f)) (join (z .args .c) (z .args .i) (z .args .f)))),
     )
 
 pub put-joined-spec : {M : Type 1} → statement M

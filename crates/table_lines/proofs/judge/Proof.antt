@@ -2,7 +2,8 @@
 -- Assumes nothing.
 use mathlib.Core.Path.{sym, _∙_}
 use borrow.Author.Needs.{needs}
-use Rattle.table.specs.Judged.{judged, orElse}
+use Rattle.facts.specs.Facts.{orElse}
+use Rattle.table.specs.Judged.{judged}
 use Rattle.table_lines.proofs.judge.Statement.{statement}
 use Rattle.table_lines.proofs.judge.Tie as tie
 
