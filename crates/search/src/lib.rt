@@ -7,7 +7,6 @@ use facts::Refusal;
 use facts::Verdict;
 use question::Found;
 use reader::load;
-use search_choice::answer;
 use search_choice::shortest;
 use search_print::print;
 use search_print::print_order;

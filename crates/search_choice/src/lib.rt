@@ -19,7 +19,7 @@ ghost use Rattle.question.specs.Trace.{placeOr, into};
 ghost use Rattle.question.specs.Answer.{Given, FindsBy, Finds};
 
 // What one search found, with the places of its path.
-pub fn answer(row: &[u32], n: usize, w: u32, t: Fact, r: Reached, path: &mut [u16]) -> Found
+fn answer(row: &[u32], n: usize, w: u32, t: Fact, r: Reached, path: &mut [u16]) -> Found
     requires { ⌜ Given (now row) n w t (r .facts) (r .state) (length (now path)) ⌝ }
     ensures { λ g. ⌜ FindsBy (now (row .entry)) n w t (r .facts) (now (path .entry)) (now (path .exit)) g ⌝ }
 {
