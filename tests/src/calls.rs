@@ -8,6 +8,10 @@ pub trait Calls {
     fn factbox_read(&self, table: &[u8], row: &mut [u32]) -> u64;
     fn factbox_write(&self, row: &[u32], output: &mut [u8]) -> u64;
     fn factbox(&self, input: &[u8]) -> Vec<u8>;
+    /// Whether its question prints the named one among several shortest derivations.
+    fn chooses(&self) -> bool {
+        true
+    }
 }
 
 impl<T: Parts> Calls for T {

@@ -14,20 +14,25 @@ extern "C" {
 
 pub struct Library {
     program: PathBuf,
+    chooses: bool,
 }
 
 impl Library {
-    /// The library that was linked, with the program that FACTBOX_PROGRAM names.
+    /// The library that was linked, with the program that FACTBOX_PROGRAM names. With FACTBOX_ANY_CHOICE set any shortest
+    /// derivation will do for the library.
     pub fn from_environment() -> Library {
         let program =
             PathBuf::from(std::env::var("FACTBOX_PROGRAM").expect("FACTBOX_PROGRAM must name the program, as target/bin/factbox"));
         assert!(program.is_file(), "FACTBOX_PROGRAM={}: no such file", program.display());
-        Library { program }
+        Library { program, chooses: std::env::var_os("FACTBOX_ANY_CHOICE").is_none() }
     }
 }
 
 // Every call is given slices of live memory, and no output overlaps an input: a `&mut` slice has no other reader.
 impl Calls for Library {
+    fn chooses(&self) -> bool {
+        self.chooses
+    }
     fn factbox_question(&self, table: &[u8], [s, p, o]: Fact, allowance: u32, paper: &mut [u8]) -> u64 {
         unsafe { factbox_question(table.as_ptr(), table.len(), s, p, o, allowance, paper.as_mut_ptr(), paper.len()) }
     }
