@@ -201,8 +201,8 @@ check-accepts b facts t x c e s =
 
 -- the same by document 01's numbers
 pub check-judges : (b : List ℕ) (t : Fact) (x : List ℕ) → Judges b t x (codeOf (checkAnswer b t x))
-check-judges b t x facts is w n =
-    let a = check-accepts b facts t x n is (fault-none t .1 w) in
+check-judges b t x facts s is w n =
+    let a = check-accepts b facts t x n (tableOf-accepted b facts .1 (is, s)) (fault-none t .1 w) in
     (λ e. a .0 (told-accepted e), λ j. ap codeOf (a .1 j))
 
 -- the check's answer, with what it means

@@ -21,7 +21,7 @@ use Rattle.facts.specs.Answers.{AcceptedWith}
 use Rattle.table.specs.declared.Scan.{Scan}
 use Rattle.table.specs.declared.Scan.the-variants.{Passes, Stops}
 use Rattle.table.specs.Scans.{scan}
-use Rattle.table.specs.Tables.{Table, accepted, refused, sized, tableOf}
+use Rattle.table.specs.Tables.{Table, TableFacts, accepted, refused, sized, tableBytes, tableOf}
 use Rattle.rules.specs.declared.Line.{Line}
 use Rattle.rules.specs.Graph.{any}
 use Rattle.rules.specs.Rules.{Rule}
@@ -90,6 +90,6 @@ pub record DerivationOf (facts : List Fact) (t : Fact) (x : List ℕ) (c : ℕ) 
   pub derives : Derives Rule facts derivation t
   pub count : tableLines derivation ≡ c
 
--- over an accepted table, for a well-formed fact, exactly the derivations are accepted, with the number of their table lines
+-- over a table with some facts, for a well-formed fact, exactly the derivations are accepted, with the number of their table lines
 abbrev pub Judges : List ℕ → Fact → List ℕ → Code → Type 0
-Judges b t x c = (facts : List Fact) → tableOf b ≡ accepted facts → T (wellFormed t) → (n : ℕ) → AcceptedWith c n ↔ DerivationOf facts t x n
+Judges b t x c = (facts : List Fact) → TableFacts facts → b ≡ tableBytes facts → T (wellFormed t) → (n : ℕ) → AcceptedWith c n ↔ DerivationOf facts t x n

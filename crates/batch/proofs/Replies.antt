@@ -15,7 +15,7 @@ use Rattle.facts.specs.declared.Answer.{Answer}
 use Rattle.facts.specs.declared.Answer.the-variants.{Done, Yes, No, Long, Accepted, Refused}
 use Rattle.table.specs.Tables.{Table, accepted, refused, tableOf}
 use Rattle.table.proofs.Rows.{accepted-size}
-use Rattle.question.specs.Question.{needed, answerFrom, questionAnswer, printedFrom, written, outputAfter, question, Answers}
+use Rattle.question.specs.Question.{needed, answerFrom, questionAnswer, printedFrom, written, outputAfter, question, Answered}
 use Rattle.question.proofs.Answered.{yes-fewest, fewest-meant, prints-length}
 use Rattle.batch.specs.declared.Query.{Query}
 use Rattle.batch.specs.Input.{questionsBehind}
@@ -78,7 +78,7 @@ written-behind (Accepted n) derivation old = refl
 written-behind (Refused r place) derivation old = refl
 
 -- the question is put with the part of the output behind the first 16 bytes, and its answer's code is written before it
-pub reply-put : (table : List ℕ) (q : Query) (out part : List ℕ) (a : Answer) → longest ≤ length out → Answers (question table (q .fact) (q .limit)) (take 63457 (drop 16 out)) part a
+pub reply-put : (table : List ℕ) (q : Query) (out part : List ℕ) (a : Answer) → longest ≤ length out → Answered (question table (q .fact) (q .limit)) (take 63457 (drop 16 out)) part a
     → (replySize a ≡ length (replyTo table q)) × (over (codeLine a) (putMid 16 63457 out part) ≡ over (replyTo table q) out)
 unfolding replyTo outputAfter
 reply-put table q out part a h r =

@@ -17,8 +17,8 @@ use Rattle.table.specs.Tables.{accepted, tableOf}
 use Rattle.derivation.proofs.Bytes.{derivation-length}
 use Rattle.acceptance.specs.Check.{checkAnswer, DerivationOf}
 use Rattle.acceptance.proofs.Accepts.{check-accepts}
-use Rattle.question.specs.Question.{question, Answers, Prints}
-use Rattle.question.proofs.Answered.{answers-mean, yes-fewest, yes-input}
+use Rattle.question.specs.Question.{printedFor, question, Answered, Prints}
+use Rattle.question.proofs.Answered.{answered-means, yes-input}
 
 -- what is printed with at most 1,024 table lines is a derivation that the check can take
 pub prints-derivation : {facts : List Fact} {t : Fact} {f : ℕ} {x : List ℕ} → f ≤ 1024 → Prints facts t f x → DerivationOf facts t x f
@@ -34,17 +34,18 @@ pub record Checked (b : List ℕ) (t : Fact) (f : ℕ) (exit : List ℕ) : Type 
   pub room : 31 * (2 * f - 1) ≤ length exit
   pub accepted : checkAnswer b t (take (31 * (2 * f - 1)) exit) ≡ Accepted f
 
-pub yes-checked : (b : List ℕ) (t : Fact) (limit f : ℕ) (entry exit : List ℕ) (a : Answer) → Answers (question b t limit) entry exit a → a ≡ Yes f → Checked b t f exit
+pub yes-checked : (b : List ℕ) (t : Fact) (limit f : ℕ) (entry exit : List ℕ) (a : Answer) → Answered (question b t limit) entry exit a → a ≡ Yes f → Checked b t f exit
 yes-checked b t limit f entry exit a g e =
     let given = sym (g .answer) ∙ e in
     let s = yes-input b t limit (length entry) f given in
-    let few : f ≤ 1024 = omega (arith, yes-fewest b t (s .0) (s .1) limit (length entry) f given .1, s .3) in
-    let m = answers-mean (question b t limit) entry exit a g (s .0) (s .1) .printed f (ap codeOf e) in
+    let m = answered-means (question b t limit) entry exit a g (s .0) (s .1) .printed f (ap codeOf e) in
+    let x = printedFor (s .0) t in
+    let few : f ≤ 1024 = omega (arith, m .0, s .3) in
     let n = 31 * (2 * f - 1) in
-    let rest = drop (length (m .0)) entry in
-    let used : length (m .0) ≡ n = ap length (m .2 .bytes) ∙ omega (arith, derivation-length (m .2 .derivation), m .2 .lines) in
-    let long : length exit ≡ length (m .0) + length rest = ap length (m .1) ∙ length-append (m .0) _ in
+    let rest = drop (length x) entry in
+    let used : length x ≡ n = ap length (m .2 .bytes) ∙ omega (arith, derivation-length (m .2 .derivation), m .2 .lines) in
+    let long : length exit ≡ length x + length rest = ap length (m .1) ∙ length-append x _ in
     record {
       room = omega arith;
-      accepted = ap (λ x. checkAnswer b t x) (ap (take n) (m .1) ∙ take-at (m .0) rest n used) ∙ prints-accepted b (s .1) (s .2) few (m .2);
+      accepted = ap (λ x. checkAnswer b t x) (ap (take n) (m .1) ∙ take-at x rest n used) ∙ prints-accepted b (s .1) (s .2) few (m .2);
     }

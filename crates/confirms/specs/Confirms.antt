@@ -6,7 +6,7 @@ use Prim.Native.Nat.{ℕ}
 use Rattle.facts.specs.declared.Fact.{Fact}
 use Rattle.facts.specs.declared.Answer.{Answer}
 use Rattle.facts.specs.declared.Answer.the-variants.{Done, Yes, No, Long, Accepted, Refused}
-use Rattle.question.specs.Question.{question, Answers}
+use Rattle.question.specs.Question.{question, Answered}
 use Rattle.confirms.specs.declared.Confirmed.{Confirmed}
 
 -- the check accepts what a yes printed, with the same count; any other answer stands as it is
@@ -19,5 +19,5 @@ confirmed (Accepted n) = Accepted n
 confirmed (Refused r place) = Refused r place
 
 pub record Confirms (table : List ℕ) (t : Fact) (limit : ℕ) (entry exit : List ℕ) (r : Confirmed) : Type 0 where
-  pub answers : Answers (question table t limit) entry exit (r .answer)
+  pub answers : Answered (question table t limit) entry exit (r .answer)
   pub verdict : r .verdict ≡ confirmed (r .answer)

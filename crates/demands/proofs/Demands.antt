@@ -17,7 +17,7 @@ use Rattle.facts.specs.declared.Answer.{Answer}
 use Rattle.facts.specs.declared.Answer.the-variants.{Done, No, Long, Refused}
 use Rattle.facts.specs.declared.Code.{Code}
 use Rattle.facts.specs.Facts.{wellFormed}
-use Rattle.facts.specs.Answers.{codeOf, YesWith, LongWith, Follows, SaysNo, AcceptedWith, DoneWith, RefusedWith}
+use Rattle.facts.specs.Answers.{codeOf, YesWith, LongWith, SaysFollows, SaysNo, AcceptedWith, DoneWith, RefusedWith}
 use Rattle.facts.proofs.Terms.{by-cases}
 use Rattle.facts.proofs.Codes.{told-yes, told-long, told-no, told-refused}
 use Rattle.table.specs.Tables.{rowOf, tableBytes, tableOf, tableOfRow, accepted}
@@ -32,17 +32,18 @@ use Rattle.rules.specs.Paths.{fewest}
 use Rattle.rules.proofs.Paths.{no-fewer}
 use Rattle.rules.proofs.Fewest.{fewest-least, fewest-none, fewest-refuted, least-part, path-derives}
 use Rattle.acceptance.specs.Check.{DerivationOf}
-use Rattle.question.specs.Question.{answerBy, answerOf, questionAnswer, written, outputAfter, Question, question, Meaning}
+use Rattle.question.specs.Question.{printedFor, answerBy, answerOf, questionAnswer, written, outputAfter, Question, question, Meaning}
 use Rattle.question.proofs.Answered.{accepted-formed, yes-fewest, long-fewest, no-fewest, same-count}
 use Rattle.entail.specs.Packed.{unpacked}
 use Rattle.entail.specs.Calls.{CheckCall, ReadCall, WriteCall}
 use Rattle.entail.proofs.Unpacked.{question-unpacked, check-unpacked, read-unpacked, write-unpacked, call-means, call-judges}
+use Rattle.batch.proofs.Whole.{replies-output}
 use Rattle.confirms.proofs.Confirms.{prints-derivation}
-use Rattle.demands.specs.Refusals.{SoundTable}
+use Rattle.demands.specs.Refusals.{SoundTable, SoundRow}
 use Rattle.demands.specs.Demands.{Put, said, SoundPut, Within, Demand-1, Demand-2, Demand-3}
-use Rattle.demands.proofs.Refusals.{sound-table, read-refused, facts-refused, write-refused, question-refused, check-refused, memory-unchanged, records-unchanged}
+use Rattle.demands.proofs.Refusals.{sound-table, sound-row, read-refused, facts-refused, write-refused, question-refused, check-refused, memory-unchanged, records-unchanged}
 use Rattle.demands.proofs.Sound.{sound-is, sound-answer, table-sound, row-sound, fact-sound, question-sound, check-sound}
-use Rattle.demands.proofs.Program.{torn, program-replies}
+use Rattle.demands.proofs.Program.{torn, torn-piece, laid-line, program-replies}
 
 -- ---- demand 1
 
@@ -76,6 +77,7 @@ demand-1 = record {
   write-refused = λ {row} {entry} g r place. by-numbers _ r place (write-unpacked g) (write-refused row (length entry) r place);
   write-unchanged = λ {row} {entry} g r place e. g .bytes ∙ memory-unchanged tableBytes (tableOfRow row) entry r place (told-refused (sym (write-unpacked g) ∙ e));
   program-torn = torn;
+  layout = laid-line;
 }
 
 -- ---- a sound question
@@ -94,7 +96,7 @@ module _ (p : Put) (facts : List Fact) (s : SoundPut p facts) where
   is = sound-is (p .question) facts lent s
 
   means : Meaning (p .question) (p .entry) (p .exit) (said p) facts
-  means = call-means (p .call) facts is
+  means = call-means (p .call) .sound facts (s .table .sound) (s .table .bytes)
 
   formed : (f : Fact) → f ∈ facts → T (wellFormed f)
   formed = accepted-formed (p .question .table) t facts is
@@ -105,10 +107,10 @@ module _ (p : Put) (facts : List Fact) (s : SoundPut p facts) where
       let a : answer p ≡ answerBy limit o = sound-answer (p .question) facts lent s ∙ unfold answerOf in (rw e) in
       said-is p ∙ ap codeOf a
 
-  found : ((f : ℕ) × (fewest facts t ≡ some f) × Follows (said p) f) ⊎ ((fewest facts t ≡ none) × SaysNo (said p))
+  found : ((f : ℕ) × (fewest facts t ≡ some f) × SaysFollows (said p) f) ⊎ ((fewest facts t ≡ none) × SaysNo (said p))
   found = go (fewest facts t) refl
     where
-      go : (o : Option ℕ) → fewest facts t ≡ o → ((f : ℕ) × (fewest facts t ≡ some f) × Follows (said p) f) ⊎ ((fewest facts t ≡ none) × SaysNo (said p))
+      go : (o : Option ℕ) → fewest facts t ≡ o → ((f : ℕ) × (fewest facts t ≡ some f) × SaysFollows (said p) f) ⊎ ((fewest facts t ≡ none) × SaysNo (said p))
       go none e = inr (e, by-fewest none e ∙ unfold answerBy in refl)
       go (some f) e =
           by-cases (leb f limit)
@@ -116,7 +118,7 @@ module _ (p : Put) (facts : List Fact) (s : SoundPut p facts) where
           (λ y. inl (f, e, inr (by-fewest (some f) e ∙ unfold answerBy in (rw y))))
 
   -- yes or long carries the fewest
-  follows-fewest : (f : ℕ) → Follows (said p) f → fewest facts t ≡ some f
+  follows-fewest : (f : ℕ) → SaysFollows (said p) f → fewest facts t ≡ some f
   follows-fewest f =
       ⊎-elim (λ (y : YesWith (said p) f). yes-fewest (p .question .table) t facts is limit lent f (told-yes (sym (said-is p) ∙ y)) .0)
       (λ (y : LongWith (said p) f). long-fewest (p .question .table) t facts is limit lent f (told-long (sym (said-is p) ∙ y)) .0)
@@ -124,15 +126,15 @@ module _ (p : Put) (facts : List Fact) (s : SoundPut p facts) where
   no-none : SaysNo (said p) → fewest facts t ≡ none
   no-none e = no-fewest (p .question .table) t facts is limit lent (told-no (sym (said-is p) ∙ e))
 
-  answered : ((f : ℕ) × Follows (said p) f) ⊎ SaysNo (said p)
+  answered : ((f : ℕ) × SaysFollows (said p) f) ⊎ SaysNo (said p)
   answered =
-      ⊎-elim (λ (h : (f : ℕ) × (fewest facts t ≡ some f) × Follows (said p) f). inl (h .0, h .2))
+      ⊎-elim (λ (h : (f : ℕ) × (fewest facts t ≡ some f) × SaysFollows (said p) f). inl (h .0, h .2))
       (λ (h : (fewest facts t ≡ none) × SaysNo (said p)). inr (h .1)) found
 
-  follows-derivable : ((f : ℕ) × Follows (said p) f) ↔ Derivable Rule facts t
+  follows-derivable : ((f : ℕ) × SaysFollows (said p) f) ↔ Derivable Rule facts t
   follows-derivable = (
     λ h. let l = fewest-least facts formed t (h .0) .0 (follows-fewest (h .0) (h .1)) in (l .derivation, l .derives),
-    λ d. ⊎-elim (λ (h : (f : ℕ) × (fewest facts t ≡ some f) × Follows (said p) f). (h .0, h .2))
+    λ d. ⊎-elim (λ (h : (f : ℕ) × (fewest facts t ≡ some f) × SaysFollows (said p) f). (h .0, h .2))
         (λ (h : (fewest facts t ≡ none) × SaysNo (said p)). absurd (fewest-none facts formed t .0 (h .0) d)) found,
   )
 
@@ -140,14 +142,14 @@ module _ (p : Put) (facts : List Fact) (s : SoundPut p facts) where
   no-refuted = (
     λ e. fewest-refuted facts formed t .0 (no-none e),
     λ r. ⊎-elim
-        (λ (h : (f : ℕ) × (fewest facts t ≡ some f) × Follows (said p) f).
+        (λ (h : (f : ℕ) × (fewest facts t ≡ some f) × SaysFollows (said p) f).
         let z : none ≡ some (h .0) = sym (fewest-refuted facts formed t .1 r) ∙ h .1 in let k : _≡_ {A = ℕ} 0 1 = cc in absurd (omega arith))
         (λ (h : (fewest facts t ≡ none) × SaysNo (said p)). h .1) found,
   )
 
   -- ---- the count, and what is printed
 
-  fewer-none : (f : ℕ) → Follows (said p) f → (part : List Fact) → Within part facts → (d : List Line) → Derives Rule part d t → f ≤ tableLines d
+  fewer-none : (f : ℕ) → SaysFollows (said p) f → (part : List Fact) → Within part facts → (d : List Line) → Derives Rule part d t → f ≤ tableLines d
   fewer-none f h = least-part facts formed t f (means .least f h .0)
 
   derives-none : SaysNo (said p) → (part : List Fact) → Within part facts → (d : List Line) → Derives Rule part d t → ⊥
@@ -156,16 +158,12 @@ module _ (p : Put) (facts : List Fact) (s : SoundPut p facts) where
       let made = path-derives facts formed t (w .0) in
       fewest-none facts formed t .0 (no-none e) (made .0, made .1)
 
-  -- the count is at most the limit where it is a yes
-  yes-within : (f : ℕ) → YesWith (said p) f → f ≤ 1024
-  yes-within f e = omega (arith, yes-fewest (p .question .table) t facts is limit lent f (told-yes (sym (said-is p) ∙ e)) .1, s .limited)
-
 -- what the check accepts over a sound table, for a well-formed fact
 judges : {b : List ℕ} {t : Fact} {x : List ℕ} {n : ℕ} → CheckCall b t x n → (facts : List Fact) → SoundTable b facts → T (wellFormed t) → (c : ℕ) → AcceptedWith (unpacked n) c ↔ DerivationOf facts t x c
-judges {b} g facts s w = call-judges g facts (sound-table b facts .1 s) w
+judges g facts s w = call-judges g facts (s .sound) (s .bytes) w
 
 -- the same question under another limit
-other-limit : (p : Put) (facts : List Fact) → SoundPut p facts → (f : ℕ) → Follows (said p) f → (p′ : Put) (limit : ℕ) → p′ .question ≡ question (p .question .table) (p .question .fact) limit
+other-limit : (p : Put) (facts : List Fact) → SoundPut p facts → (f : ℕ) → SaysFollows (said p) f → (p′ : Put) (limit : ℕ) → p′ .question ≡ question (p .question .table) (p .question .fact) limit
     → SoundPut p′ facts → (f ≤ limit ↔ YesWith (said p′) f) × (limit < f ↔ LongWith (said p′) f)
 other-limit p facts s f h p′ limit e s′ =
     let t = p .question .fact in
@@ -181,33 +179,50 @@ other-limit p facts s f h p′ limit e s′ =
 
 -- ---- reading and writing
 
+read-done : {b entry exit : List ℕ} {n : ℕ} {facts : List Fact} → ReadCall b entry exit n → SoundTable b facts → 3 * length facts ≤ length entry
+    → DoneWith (unpacked n) (length facts) × (exit ≡ over (rowOf facts) entry)
+read-done {b} {entry} {exit} {n} {facts} g s room =
+    let d = settle-done rowOf (tableOf b) entry facts (sound-table b facts .1 s) (rw row-length room) in
+    (read-unpacked g ∙ ap codeOf (d .0), g .row ∙ d .1)
+
+facts-done : {b : List ℕ} {entry exit : List Fact} {a : Answer} {facts : List Fact} → TransfersRecords b entry exit a → SoundTable b facts → length facts ≤ length entry
+    → DoneWith (codeOf a) (length facts) × (exit ≡ overRecords facts entry)
+unfolding settledRecords filledRecords
+facts-done {b} {entry} {exit} {a} {facts} g s room =
+    let e = sound-table b facts .1 s in
+    let fits = le-leb (length facts) (length entry) room in
+    (ap codeOf (g .answer) ∙ rw (e, fits), g .memory ∙ rw (e, fits))
+
+write-done : {row entry exit : List ℕ} {n : ℕ} {facts : List Fact} → WriteCall row entry exit n → SoundRow row facts → 16 * length facts ≤ length entry
+    → DoneWith (unpacked n) (length facts) × (exit ≡ over (tableBytes facts) entry)
+write-done {row} {entry} {exit} {n} {facts} g s room =
+    let d = settle-done tableBytes (tableOfRow row) entry facts (sound-row row facts .1 s) (rw bytes-length room) in
+    (write-unpacked g ∙ ap codeOf (d .0), g .bytes ∙ d .1)
+
 -- the numbers of a sound table's facts, written where there is room
 written-back : {b out out′ : List ℕ} {m : ℕ} {facts : List Fact} → SoundTable b facts → 16 * length facts ≤ length out → WriteCall (rowOf facts) out out′ m
     → DoneWith (unpacked m) (length facts) × (out′ ≡ over b out)
 written-back {b} {out} {out′} {m} {facts} s room g =
-    let w = read-write b facts (sound-table b facts .1 s) in
-    let d = settle-done tableBytes (tableOfRow (rowOf facts)) out facts (w .0) (rw bytes-length room) in
-    (write-unpacked g ∙ ap codeOf (d .0), g .bytes ∙ d .1 ∙ rw (w .1))
+    let w = write-done g (record { numbers = refl; sound = s .sound }) room in
+    (w .0, w .1 ∙ rw (s .bytes))
 
 read-back : {b row row′ out out′ : List ℕ} {n m : ℕ} {facts : List Fact} → SoundTable b facts → 3 * length facts ≤ length row → 16 * length facts ≤ length out
     → ReadCall b row row′ n → WriteCall (take (3 * length facts) row′) out out′ m
     → DoneWith (unpacked n) (length facts) × DoneWith (unpacked m) (length facts) × (row′ ≡ over (rowOf facts) row) × (out′ ≡ over b out)
 read-back {b} {row} {row′} {out} {out′} {n} {m} {facts} s room space g h =
-    let d = settle-done rowOf (tableOf b) row facts (sound-table b facts .1 s) (rw row-length room) in
-    let r : row′ ≡ over (rowOf facts) row = g .row ∙ d .1 in
-    let front : take (3 * length facts) row′ ≡ rowOf facts = rw r (take-at (rowOf facts) _ (3 * length facts) (row-length facts)) in
+    let r = read-done g s room in
+    let front : take (3 * length facts) row′ ≡ rowOf facts = rw (r .1) (take-at (rowOf facts) _ (3 * length facts) (row-length facts)) in
     let w = written-back s space (rw front at h) in
-    (read-unpacked g ∙ ap codeOf (d .0), w .0, r, w .1)
+    (r .0, w .0, r .1, w .1)
 
 facts-back : {b out out′ : List ℕ} {row row′ : List Fact} {a : Answer} {m : ℕ} {facts : List Fact} → SoundTable b facts → length facts ≤ length row → 16 * length facts ≤ length out
     → TransfersRecords b row row′ a → WriteCall (rowOf (take (length facts) row′)) out out′ m
     → DoneWith (codeOf a) (length facts) × DoneWith (unpacked m) (length facts) × (row′ ≡ overRecords facts row) × (out′ ≡ over b out)
 facts-back {b} {out} {out′} {row} {row′} {a} {m} {facts} s room space g h =
-    let done : settledRecords (tableOf b) (length row) ≡ Done (length facts) = unfold settledRecords in (rw (sound-table b facts .1 s, le-leb (length facts) (length row) room)) in
-    let r : row′ ≡ overRecords facts row = g .memory ∙ unfold filledRecords in (rw (sound-table b facts .1 s, le-leb (length facts) (length row) room)) in
-    let front : take (length facts) row′ ≡ facts = rw r (take-at facts _ (length facts) refl) in
+    let r = facts-done g s room in
+    let front : take (length facts) row′ ≡ facts = rw (r .1) (take-at facts _ (length facts) refl) in
     let w = written-back s space (rw front at h) in
-    (ap codeOf (g .answer ∙ done), w .0, r, w .1)
+    (r .0, w .0, r .1, w .1)
 
 pub demand-2 : Demand-2
 demand-2 = record {
@@ -220,6 +235,9 @@ demand-2 = record {
   follows = follows-derivable;
   refuted = no-refuted;
   checked = judges;
+  read-done = read-done;
+  facts-done = facts-done;
+  write-done = write-done;
   read-written = read-back;
   facts-written = facts-back;
 }
@@ -235,7 +253,8 @@ demand-3 = record {
   same-count = other-limit;
   printed = λ p facts s f e.
       let m = means p facts s .printed f e in
-      (m .0, m .1, m .2, λ r g. judges g facts (s .table) (s .fact) f .1 (prints-derivation (yes-within p facts s f e) (m .2)));
+      let few : f ≤ 1024 = omega (arith, m .0, s .limited) in
+      (printedFor facts (p .question .fact), m .1, m .2, λ r g. judges g facts (s .table) (s .fact) f .1 (prints-derivation few (m .2)));
   none = λ p facts s e part in-facts. (
     derives-none p facts s e part in-facts,
     λ b s′ x n g c h. let j = judges g part s′ (s .fact) c .0 h in derives-none p facts s e part in-facts (j .derivation) (j .derives),
@@ -243,4 +262,6 @@ demand-3 = record {
   unwritten = λ p f. ⊎-elim (λ (e : LongWith (said p) f). left p (Long f) (λ bytes old. unfold written in refl) (told-long (sym (said-is p) ∙ e)))
       (λ (e : SaysNo (said p)). left p No (λ bytes old. unfold written in refl) (told-no (sym (said-is p) ∙ e)));
   program = program-replies;
+  pieces = replies-output;
+  torn-piece = torn-piece;
 }

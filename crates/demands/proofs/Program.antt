@@ -1,13 +1,17 @@
 -- What the program prints: for each question what the call gives, and behind a yes a derivation that the check accepts.
 -- Assumes nothing.
 use mathlib.Core.Path.{_≡_, refl, sym, ap, _∙_}
-use mathlib.Core.List.{List, [], _∷_}
-use Prim.Native.Nat.{ℕ, _≤_}
+use mathlib.Core.Logic.{_↔_, _⊎_, inl, inr}
+use mathlib.Core.Bool.{true}
+use mathlib.Core.List.{List, [], _∷_, _++_}
+use Prim.Native.Nat.{ℕ, _+_, _≤_}
 use native.Mathlib.Omega.{arith}
-use lib.ListN.{length, replicate, length-replicate}
-use Rattle.columns.specs.Lines.{line, over, flat}
+use lib.ListN.{length, drop, replicate, length-replicate}
+use Rattle.columns.specs.Lines.{line, Below, width, numbersAt, laidOut, over, flat}
+use Rattle.columns.proofs.Lines.{line-read, line-written, numbers-length}
 use Rattle.facts.specs.declared.Fact.{Fact}
-use Rattle.facts.specs.declared.Refusal.the-variants.{Form}
+use Rattle.facts.specs.declared.Refusal.{Refusal}
+use Rattle.facts.specs.declared.Refusal.the-variants.{Size, Column, Term, Blank, Part, Order, Allowance, Short, Form, Step, End}
 use Rattle.facts.specs.declared.Answer.{Answer}
 use Rattle.facts.specs.declared.Answer.the-variants.{Done, Yes, No, Long, Accepted, Refused}
 use Rattle.facts.specs.declared.Code.{Code}
@@ -19,18 +23,55 @@ use Rattle.question.proofs.Answered.{yes-fewest, yes-input, fewest-prints}
 use Rattle.entail.specs.Packed.{packed}
 use Rattle.entail.proofs.Unpacked.{question-unpacked, check-unpacked}
 use Rattle.batch.specs.declared.Query.{Query}
-use Rattle.batch.specs.Output.{codeLine, behindCode, replyTo, outputOf}
+use Rattle.batch.specs.declared.Input.the-variants.{Torn}
+use Rattle.batch.specs.Input.{layoutOf}
+use Rattle.batch.specs.Output.{codeLine, behindCode, replyTo, outputBy, outputOf}
 use Rattle.batch.specs.Whole.{Laid}
 use Rattle.batch.proofs.Whole.{laid-output, torn-output}
 use Rattle.confirms.proofs.Confirms.{prints-accepted}
 use Rattle.demands.specs.Refusals.{SoundTable}
 use Rattle.demands.specs.Demands as demands
-use Rattle.demands.specs.Demands.{Put, said, Accepts, Reply, Replies}
+use Rattle.demands.specs.Demands.{Put, said, Shown, Reply, Replies}
 use Rattle.demands.proofs.Refusals.{sound-table}
 
 pub torn : (b : List ℕ) → ((table : List ℕ) (qs : List Query) → Laid b table qs → ⊥) → outputOf b ≡ line (numberOf Form ∷ 0 ∷ 0 ∷ [])
 unfolding codeLine
 torn = torn-output
+
+pub torn-piece : (b : List ℕ) → layoutOf b ≡ Torn → outputOf b ≡ codeLine (Refused Form 0)
+unfolding outputOf outputBy
+torn-piece b e = rw e
+
+-- lines are laid out exactly where they are written so
+pub laid-line : (k : ℕ) (b : List ℕ) (at : ℕ) → at + width k ≤ length b
+    → laidOut k b at ≡ true ↔ ((ns : List ℕ) × (length ns ≡ k) × Below ns × (drop at b ≡ line ns ++ drop (at + width k) b) × (numbersAt k b at ≡ ns))
+laid-line k b at h = (
+  λ e. let w = line-written k b at h e in (numbersAt k b at, numbers-length k b at, w .1, w .0, refl),
+  λ w. rw (w .1) at (line-read (w .0) b (drop (at + width k) b) at (w .2) (w .3) .0),
+)
+
+-- no derivation stands behind what is no yes
+plain : (a : Answer) (x : List ℕ) → (codeOf a .number ≡ 90 → ⊥) → behindCode a x ≡ []
+unfolding behindCode
+plain (Done n) x h = refl
+plain (Yes f) x h = absurd (h refl)
+plain No x h = refl
+plain (Long f) x h = refl
+plain (Accepted n) x h = refl
+plain (Refused r place) x h = refl
+
+not-yes : (r : Refusal) → numberOf r ≡ 90 → ⊥
+not-yes Size z = omega arith
+not-yes Column z = omega arith
+not-yes Term z = omega arith
+not-yes Blank z = omega arith
+not-yes Part z = omega arith
+not-yes Order z = omega arith
+not-yes Allowance z = omega arith
+not-yes Short z = omega arith
+not-yes Form z = omega arith
+not-yes Step z = omega arith
+not-yes End z = omega arith
 
 module _ (table : List ℕ) (q : Query) where
   -- memory for the longest derivation
@@ -54,40 +95,41 @@ module _ (table : List ℕ) (q : Query) where
   abbrev behind : List ℕ
   behind = behindCode answer (printedFrom (tableOf table) (q .fact))
 
-  plain : (a : Answer) (x : List ℕ) → (codeOf a .number ≡ 90 → ⊥) → behindCode a x ≡ []
-  unfolding behindCode
-  plain (Done n) x h = refl
-  plain (Yes f) x h = absurd (h refl)
-  plain No x h = refl
-  plain (Long f) x h = refl
-  plain (Accepted n) x h = refl
-  plain (Refused r place) x h = refl
+  other : (a : Answer) → answer ≡ a → (codeOf a .number ≡ 90 → ⊥) → (said put .number ≡ 90 → ⊥) × (behind ≡ [])
+  other a e h = (λ z. h (sym (ap (λ (c : Code). c .number) (said-is ∙ ap codeOf e)) ∙ z), rw e (plain a _ h))
 
   -- behind a yes: the derivation that the call printed
-  yes : (f : ℕ) → answer ≡ Yes f
-      → (facts : List Fact) × SoundTable table facts × (put .exit ≡ over behind blank) × Prints facts (q .fact) f behind × Accepts table (q .fact) behind f
+  shown : (f : ℕ) → answer ≡ Yes f → Shown put f behind
   unfolding outputAfter written behindCode printedFrom
-  yes f e =
+  shown f e =
       let s = yes-input table (q .fact) (q .limit) (length blank) f e in
       let y = yes-fewest table (q .fact) (s .0) (s .1) (q .limit) (length blank) f e in
       let few : f ≤ 1024 = omega (arith, y .1, s .3) in
       let bytes : behind ≡ printedFor (s .0) (q .fact) = rw (e, s .1) in
       let p : Prints (s .0) (q .fact) f behind = rw bytes (fewest-prints table (q .fact) (s .0) (s .1) f (y .0)) in
-      (s .0, sound-table table (s .0) .0 (s .1), rw e, p, λ r g. check-unpacked g ∙ ap codeOf (prints-accepted table (s .1) (s .2) few p))
+      record {
+        yes = said-is ∙ ap codeOf e;
+        facts = s .0;
+        table = sound-table table (s .0) .0 (s .1);
+        output = rw e;
+        prints = p;
+        accepted = λ r g. check-unpacked g ∙ ap codeOf (prints-accepted table (s .1) (s .2) few p);
+      }
+
+  -- a yes, or another number
+  two : (a : Answer) → answer ≡ a → ((f : ℕ) × Shown put f behind) ⊎ ((said put .number ≡ 90 → ⊥) × (behind ≡ []))
+  two (Yes f) e = inl (f, shown f e)
+  two (Done n) e = inr (other (Done n) e (λ z. omega arith))
+  two No e = inr (other No e (λ z. omega arith))
+  two (Long f) e = inr (other (Long f) e (λ z. omega arith))
+  two (Accepted n) e = inr (other (Accepted n) e (λ z. omega arith))
+  two (Refused r place) e = inr (other (Refused r place) e (λ z. not-yes r z))
 
   reply : Reply table q (replyTo table q)
   unfolding replyTo codeLine
   reply =
       let n : length blank ≡ needed 1024 = length-replicate {A = ℕ} (needed 1024) 0 in
-      record {
-        put = put;
-        asks = refl;
-        room = omega (arith, n);
-        derivation = behind;
-        is = rw (said-is, n);
-        plain = λ h. plain answer (printedFrom (tableOf table) (q .fact)) (λ e. h (ap (λ (c : Code). c .number) said-is ∙ e));
-        yes = λ f e. yes f (told-yes (sym said-is ∙ e));
-      }
+      record { put = put; same-question = refl; room = omega (arith, n); derivation = behind; is = rw (said-is, n); behind = two answer refl }
 
 replies : (table : List ℕ) (qs : List Query) → Replies table qs (flat (replyTo table) qs)
 unfolding flat

@@ -4,7 +4,7 @@ use mathlib.Core.Path.{_≡_, refl, sym, _∙_}
 use mathlib.Core.Logic.{_↔_, _⊎_, inl, inr, ⊎-elim}
 use mathlib.Core.Bool.{Bool, true, false, cond, _&&_}
 use mathlib.Core.Option.{Option, none, some}
-use mathlib.Core.List.{List}
+use mathlib.Core.List.{List, [], _∷_}
 use Prim.Native.Nat.{ℕ, suc, _+_, _-_, _*_, _/_, _<_}
 use native.Mathlib.Omega.{arith}
 use native.Mathlib.Nat.{zero-add}
@@ -15,12 +15,12 @@ use Rattle.columns.specs.Lines.{laidOut}
 use Rattle.columns.proofs.Fields.{both}
 use Rattle.facts.specs.declared.Fact.{Fact}
 use Rattle.facts.specs.declared.Refusal.{Refusal}
-use Rattle.facts.specs.declared.Refusal.the-variants.{Size, Allowance, Short, Form, Step, End}
+use Rattle.facts.specs.declared.Refusal.the-variants.{Size, Term, Blank, Part, Allowance, Short, Form, Step, End}
 use Rattle.facts.specs.declared.Verdict.{Verdict}
 use Rattle.facts.specs.declared.Verdict.the-variants.{Sound, Faulty}
 use Rattle.facts.specs.declared.Answer.{Answer}
 use Rattle.facts.specs.declared.Answer.the-variants.{Done, Yes, Long, Accepted, Refused}
-use Rattle.facts.specs.Facts.{wellFormed, faultOf, orElse}
+use Rattle.facts.specs.Facts.{wellFormed, hasNoTerm, hasBlank, misplaced, faultOf, orElse}
 use Rattle.facts.proofs.Terms.{by-cases, T-of, of-T}
 use Rattle.facts.proofs.Facts.{fault-none}
 use Rattle.table.specs.declared.Scan.{Scan}
@@ -40,7 +40,7 @@ use Rattle.derivation.specs.Bytes.{lineAt}
 use Rattle.acceptance.specs.Check.{linesOf, formVerdict, stepVerdict, after, endAnswer, linesAnswer, derivationAnswer, factAnswer, tableAnswer, checkAnswer}
 use Rattle.question.specs.Question.{needed, questionFault, asked, answerBy, answerOf, unless, answerFrom, questionAnswer, Question, question}
 use Rattle.demands.specs.Refusals as refusals
-use Rattle.demands.specs.Refusals.{SoundTable, SoundRow, Whole, LinesRefused, TableRefused, RowRefused, ReadRefused, WriteRefused, QuestionRefused, CheckRefused, Lines}
+use Rattle.demands.specs.Refusals.{SoundTable, SoundRow, WholeLines, LinesRefused, TableRefused, RowRefused, FactRefused, ReadRefused, WriteRefused, QuestionRefused, CheckRefused, Lines}
 
 -- ---- what is sound
 
@@ -57,8 +57,8 @@ sound-row row facts =
 -- ---- a table, and a row to write
 
 -- lines of k, where a size of whole lines is told from others by `sized`
-module _ (k size : ℕ) (earned : ℕ → Refusal → Bool) (says : sized k (k * 1024) size ≡ true → Whole k size (size / k))
-    (is : (n : ℕ) → Whole k size n → (sized k (k * 1024) size ≡ true) × (size / k ≡ n)) where
+module _ (k size : ℕ) (earned : ℕ → Refusal → Bool) (says : sized k (k * 1024) size ≡ true → WholeLines k size (size / k))
+    (is : (n : ℕ) → WholeLines k size n → (sized k (k * 1024) size ≡ true) × (size / k ≡ n)) where
   abbrev judge : ℕ → Verdict
   judge i = firstEarned (earned i) tried
 
@@ -89,9 +89,9 @@ pub table-refused : (b : List ℕ) (r : Refusal) (place : ℕ) → tableOf b ≡
 unfolding lineVerdict
 table-refused b r place =
     let t = tableOf-refused b r place in
-    let says : sized 16 16384 (length b) ≡ true → Whole 16 (length b) (length b / 16) =
+    let says : sized 16 16384 (length b) ≡ true → WholeLines 16 (length b) (length b / 16) =
     λ e. let s = sized-says 16 16384 (length b) e in record { exact = omega arith; few = omega arith } in
-    let is : (n : ℕ) → Whole 16 (length b) n → (sized 16 16384 (length b) ≡ true) × (length b / 16 ≡ n) =
+    let is : (n : ℕ) → WholeLines 16 (length b) n → (sized 16 16384 (length b) ≡ true) × (length b / 16 ≡ n) =
     λ n w. (sized-fits 16 16384 (length b) (omega (arith, w .exact)) (omega (arith, w .exact, w .few)), omega (arith, w .exact)) in
     let earned : ℕ → Refusal → Bool = λ i. earns (laidOut 3 b (16 * i)) (lineFact b) i in
     (λ e. lines-say 16 (length b) earned says is r place (t .0 e), λ h. t .1 (lines-are 16 (length b) earned says is h))
@@ -100,9 +100,9 @@ pub row-refused : (row : List ℕ) (r : Refusal) (place : ℕ) → tableOfRow ro
 unfolding rowVerdict
 row-refused row r place =
     let t = tableOfRow-refused row r place in
-    let says : sized 3 3072 (length row) ≡ true → Whole 3 (length row) (length row / 3) =
+    let says : sized 3 3072 (length row) ≡ true → WholeLines 3 (length row) (length row / 3) =
     λ e. let s = sized-says 3 3072 (length row) e in record { exact = omega arith; few = omega arith } in
-    let is : (n : ℕ) → Whole 3 (length row) n → (sized 3 3072 (length row) ≡ true) × (length row / 3 ≡ n) =
+    let is : (n : ℕ) → WholeLines 3 (length row) n → (sized 3 3072 (length row) ≡ true) × (length row / 3 ≡ n) =
     λ n w. (sized-fits 3 3072 (length row) (omega (arith, w .exact)) (omega (arith, w .exact, w .few)), omega (arith, w .exact)) in
     let earned = earns true (rowFact row) in
     (λ e. lines-say 3 (length row) earned says is r place (t .0 e), λ h. t .1 (lines-are 3 (length row) earned says is h))
@@ -205,6 +205,12 @@ records-unchanged (accepted facts) old r place e =
     (λ y. let u : Done (length facts) ≡ Refused r place = rw y at e in let k : _≡_ {A = ℕ} 0 1 = cc in absurd (omega arith))
     (λ y. rw y)
 
+-- ---- the triple
+
+pub fact-refused : (t : Fact) (r : Refusal) → faultOf t ≡ Faulty r ↔ FactRefused t r
+unfolding faultOf hasNoTerm hasBlank misplaced earns firstEarned
+fact-refused t r = first-earned (earns true (λ i. t) 0) (Term ∷ Blank ∷ Part ∷ []) r
+
 -- ---- the question
 
 pub no-refusal : (limit : ℕ) (o : Option ℕ) (r : Refusal) (place : ℕ) → answerBy limit o ≡ Refused r place → ⊥
@@ -218,7 +224,7 @@ no-refusal limit (some f) r place e =
 asked-says : (b : List ℕ) (facts : List Fact) (t : Fact) (limit m : ℕ) (v : Verdict) (r : Refusal) → SoundTable b facts → faultOf t ≡ v
     → orElse v (cond (leb limit 1024) (cond (leb (needed limit) m) Sound (Faulty Short)) (Faulty Allowance)) ≡ Faulty r → QuestionRefused (question b t limit) m r 0
 unfolding orElse
-asked-says b facts t limit m (Faulty q) r s z e = let i : q ≡ r = cc in rw (← i) (refusals.by-fact s z)
+asked-says b facts t limit m (Faulty q) r s z e = let i : q ≡ r = cc in rw (← i) (refusals.by-fact s (fact-refused t q .0 z))
 asked-says b facts t limit m Sound r s z e =
     let w = fault-none t .0 z in
     by-cases (leb limit 1024)
@@ -244,7 +250,7 @@ question-says b t limit m (accepted facts) r place z e = unless-says b facts t l
 question-is : {q : Question} {m : ℕ} {r : Refusal} {place : ℕ} → QuestionRefused q m r place → questionAnswer (q .table) (q .fact) (q .limit) m ≡ Refused r place
 unfolding questionAnswer answerFrom unless asked orElse questionFault
 question-is {q} {m} {r} {place} (refusals.by-table z) = rw (table-refused (q .table) r place .1 z)
-question-is {q} (refusals.by-fact {facts} s z) = rw (sound-table (q .table) facts .1 s, z)
+question-is {q} {m} {r} (refusals.by-fact {facts} s z) = rw (sound-table (q .table) facts .1 s, fact-refused (q .fact) r .1 z)
 question-is {q} (refusals.by-limit {facts} s w h) = rw (sound-table (q .table) facts .1 s, fault-none (q .fact) .1 w, lt-leb _ _ h)
 question-is {q} (refusals.by-room {facts} s w h k) = rw (sound-table (q .table) facts .1 s, fault-none (q .fact) .1 w, le-leb _ _ h, lt-leb _ _ k)
 
@@ -332,7 +338,7 @@ fact-says : (b : List ℕ) (facts : List Fact) (t : Fact) (x : List ℕ) (v : Ve
     → CheckRefused b t x r place
 unfolding factAnswer
 fact-says b facts t x Sound r place s z e = derivation-says b facts t x r place s (fault-none t .0 z) e
-fact-says b facts t x (Faulty q) r place s z e = let i : q ≡ r = cc in let j : 0 ≡ place = cc in rw (← i, ← j) (refusals.by-fact s z)
+fact-says b facts t x (Faulty q) r place s z e = let i : q ≡ r = cc in let j : 0 ≡ place = cc in rw (← i, ← j) (refusals.by-fact s (fact-refused t q .0 z))
 
 check-says : (b : List ℕ) (t : Fact) (x : List ℕ) (u : Table) (r : Refusal) (place : ℕ) → tableOf b ≡ u → tableAnswer u t x ≡ Refused r place → CheckRefused b t x r place
 unfolding tableAnswer
@@ -386,7 +392,7 @@ stops-at judge n i r h before bad = scan-stopped judge n r (suc i) .1 (record { 
 
 check-is : {b : List ℕ} {t : Fact} {x : List ℕ} {r : Refusal} {place : ℕ} → CheckRefused b t x r place → checkAnswer b t x ≡ Refused r place
 check-is {b} {t} {x} {r} {place} (refusals.by-table z) = unfold checkAnswer tableAnswer in (rw (table-refused b r place .1 z))
-check-is {b} (refusals.by-fact {facts} s z) = unfold checkAnswer tableAnswer factAnswer in (rw (sound-table b facts .1 s, z))
+check-is {b} {t} {x} {r} (refusals.by-fact {facts} s z) = unfold checkAnswer tableAnswer factAnswer in (rw (sound-table b facts .1 s, fact-refused t r .1 z))
 check-is {b} {t} {x} (refusals.by-size {facts} s w torn) = size-bad b facts t x s w torn
 check-is {b} {t} {x} (refusals.by-form {facts} {n} {i} s w l h before bad) =
     lines-checked b facts t x n s w l ∙ unfold linesAnswer after in (rw (stops-at (formVerdict x) n i Form h (λ j k. form-sound x j (before j k)) (form-bad x i bad)))

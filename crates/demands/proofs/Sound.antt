@@ -8,14 +8,13 @@ use Prim.Native.Nat.{ℕ, _-_, _/_}
 use native.Mathlib.Omega.{arith}
 use lib.ListN.{length}
 use lib.Dec.{T, ltb}
-use borrow.Author.Tests.{le-leb}
 use Rattle.facts.specs.declared.Fact.{Fact}
 use Rattle.facts.specs.declared.Refusal.{Refusal}
 use Rattle.facts.specs.declared.Verdict.{Verdict}
 use Rattle.facts.specs.declared.Verdict.the-variants.{Sound, Faulty}
 use Rattle.facts.specs.declared.Answer.{Answer}
 use Rattle.facts.specs.declared.Answer.the-variants.{Accepted, Refused}
-use Rattle.facts.specs.Facts.{wellFormed, faultOf, orElse}
+use Rattle.facts.specs.Facts.{wellFormed, faultOf}
 use Rattle.facts.proofs.Terms.{by-cases}
 use Rattle.facts.proofs.Facts.{fault-none}
 use Rattle.table.specs.declared.Scan.{Scan}
@@ -27,11 +26,11 @@ use Rattle.rules.specs.Steps.{same}
 use Rattle.derivation.specs.Bytes.{lineAt}
 use Rattle.acceptance.specs.Check.{formVerdict, stepVerdict, after, endAnswer, linesAnswer, derivationAnswer, factAnswer, tableAnswer, checkAnswer}
 use Rattle.acceptance.proofs.Accepts.{check-accepts}
-use Rattle.question.specs.Question.{needed, questionFault, asked, answerOf, unless, questionAnswer, Question}
-use Rattle.question.proofs.Answered.{answer-accepted, asked-sound, asked-formed}
+use Rattle.question.specs.Question.{asked, answerOf, unless, questionAnswer, Question}
+use Rattle.question.proofs.Answered.{answer-accepted, answer-sound, asked-sound, asked-formed}
 use Rattle.demands.specs.Refusals as refusals
 use Rattle.demands.specs.Refusals.{SoundTable, SoundRow, SoundQuestion, SoundCheck, TableRefused, RowRefused, FactRefused, QuestionRefused, CheckRefused}
-use Rattle.demands.proofs.Refusals.{sound-table, sound-row, table-refused, row-refused, no-refusal, question-refused, check-refused}
+use Rattle.demands.proofs.Refusals.{sound-table, sound-row, table-refused, row-refused, fact-refused, no-refusal, question-refused, check-refused}
 
 -- ---- tables and rows
 
@@ -61,11 +60,11 @@ pub fact-sound : (t : Fact) → T (wellFormed t) ↔ ((r : Refusal) → FactRefu
 fact-sound t = (never, go (faultOf t) refl)
   where
     never : T (wellFormed t) → (r : Refusal) → FactRefused t r → ⊥
-    never w r e = let u : Sound ≡ Faulty r = sym (fault-none t .1 w) ∙ e in let z : _≡_ {A = ℕ} 0 1 = cc in omega arith
+    never w r e = let u : Sound ≡ Faulty r = sym (fault-none t .1 w) ∙ fact-refused t r .1 e in let z : _≡_ {A = ℕ} 0 1 = cc in omega arith
 
     go : (v : Verdict) → faultOf t ≡ v → ((r : Refusal) → FactRefused t r → ⊥) → T (wellFormed t)
     go Sound e none = fault-none t .0 e
-    go (Faulty r) e none = absurd (none r e)
+    go (Faulty r) e none = absurd (none r (fact-refused t r .0 e))
 
 -- ---- the question
 
@@ -75,10 +74,7 @@ module _ (q : Question) (facts : List Fact) (m : ℕ) (s : SoundQuestion q facts
 
   -- sound input is answered from the facts
   pub sound-answer : questionAnswer (q .table) (q .fact) (q .limit) m ≡ answerOf facts (q .fact) (q .limit)
-  sound-answer = answer-accepted (q .table) (q .fact) facts sound-is (q .limit) m ∙ rw (nothing-refused) (unfold unless in refl)
-    where
-      nothing-refused : asked (q .fact) (q .limit) m ≡ Sound
-      nothing-refused = unfold asked orElse questionFault in (rw (fault-none (q .fact) .1 (s .fact), le-leb (q .limit) 1024 (s .limited), le-leb (needed (q .limit)) m (s .room)))
+  sound-answer = answer-sound (q .table) (q .fact) facts sound-is (q .limit) m (s .fact) (s .limited) (s .room)
 
   sound-unrefused : (r : Refusal) (place : ℕ) → QuestionRefused q m r place → ⊥
   sound-unrefused r place h =
@@ -132,7 +128,7 @@ check-sound b t x = (never, go (tableOf b) refl)
 
     judged : (facts : List Fact) → tableOf b ≡ accepted facts → (v : Verdict) → faultOf t ≡ v → ((r : Refusal) (place : ℕ) → CheckRefused b t x r place → ⊥)
         → (facts : List Fact) × (n : ℕ) × SoundCheck b facts t x n
-    judged facts e (Faulty r) z none = absurd (none r 0 (refusals.by-fact (sound-table b facts .0 e) z))
+    judged facts e (Faulty r) z none = absurd (none r 0 (refusals.by-fact (sound-table b facts .0 e) (fact-refused t r .0 z)))
     judged facts e Sound z none =
         let is : checkAnswer b t x ≡ derivationAnswer facts t x = unfold checkAnswer tableAnswer factAnswer in (rw (e, z)) in
         ⊎-elim

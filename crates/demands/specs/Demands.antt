@@ -1,22 +1,25 @@
--- The customer's three demands, a record for each and a field for each sentence. They assume of a call its equations alone
+-- The customer's three demands, a record for each and a field for each sentence. They take of a call its equations alone
 -- (`QuestionCall`, `CheckCall`, `ReadCall`, `WriteCall`, `TransfersRecords`: what the functions' contracts say under the name `call`), and
--- speak of its result by document 01's numbers: `unpacked r` has number, place and count.
+-- speak of its result by document 01's numbers: `unpacked r` has number, place and count. Of the program they speak by `outputOf`, all
+-- that it is to print; no contract can say what reaches standard output.
 -- Assumes nothing.
 use mathlib.Core.Path.{_≡_}
 use mathlib.Core.Logic.{_↔_, _⊎_}
+use mathlib.Core.Bool.{true}
 use mathlib.Core.List.{List, [], _∷_, _++_}
-use Prim.Native.Nat.{ℕ, _*_, _≤_, _<_}
-use lib.ListN.{length, take}
+use Prim.Native.Nat.{ℕ, _+_, _*_, _≤_, _<_}
+use lib.ListN.{length, take, drop}
 use lib.Dec.{T}
-use Rattle.columns.specs.Lines.{line, over}
+use Rattle.columns.specs.Lines.{line, Below, width, numbersAt, laidOut, over, flat, itemsFrom}
 use Rattle.facts.specs.declared.Fact.{Fact}
 use Rattle.facts.specs.declared.Refusal.{Refusal}
 use Rattle.facts.specs.declared.Refusal.the-variants.{Form}
 use Rattle.facts.specs.declared.Answer.{Answer}
+use Rattle.facts.specs.declared.Answer.the-variants.{Refused}
 use Rattle.facts.specs.declared.Code.{Code}
 use Rattle.facts.specs.Facts.{wellFormed}
-use Rattle.facts.specs.Answers.{codeOf, numberOf, YesWith, LongWith, Follows, SaysNo, AcceptedWith, DoneWith, RefusedWith}
-use Rattle.table.specs.Tables.{rowOf}
+use Rattle.facts.specs.Answers.{codeOf, numberOf, YesWith, LongWith, SaysFollows, SaysNo, AcceptedWith, DoneWith, RefusedWith}
+use Rattle.table.specs.Tables.{rowOf, tableBytes}
 use Rattle.rules.specs.declared.Line.{Line}
 use Rattle.rules.specs.Graph.{_∈_}
 use Rattle.rules.specs.Rules.{Rule}
@@ -27,7 +30,9 @@ use Rattle.records.specs.Records.{overRecords, TransfersRecords}
 use Rattle.entail.specs.Packed.{unpacked}
 use Rattle.entail.specs.Calls.{QuestionCall, CheckCall, ReadCall, WriteCall}
 use Rattle.batch.specs.declared.Query.{Query}
-use Rattle.batch.specs.Output.{outputOf}
+use Rattle.batch.specs.declared.Input.the-variants.{Torn, Parts}
+use Rattle.batch.specs.Input.{layoutOf}
+use Rattle.batch.specs.Output.{codeLine, longest, replyIn, outputOf}
 use Rattle.batch.specs.Whole.{Laid}
 use Rattle.demands.specs.Refusals.{SoundTable, SoundQuestion, SoundCheck, TableRefused, RowRefused, SoundRow, FactRefused, ReadRefused, WriteRefused, QuestionRefused, CheckRefused}
 
@@ -63,18 +68,24 @@ Within part facts = (f : Fact) → f ∈ part → f ∈ facts
 abbrev pub heading : Code → List ℕ
 heading c = line (c .number ∷ c .place ∷ c .count ∷ [])
 
--- the reply to a question about a table: what some call of the question gives that has output enough for every limit
+-- behind a yes with f stands the derivation that the call printed: sound, in order, of 2 f - 1 lines, and accepted by the check with f
+pub record Shown (p : Put) (f : ℕ) (derivation : List ℕ) : Type 0 where
+  pub yes : YesWith (said p) f
+  pub facts : List Fact
+  pub table : SoundTable (p .question .table) facts
+  pub output : p .exit ≡ over derivation (p .entry)
+  pub prints : Prints facts (p .question .fact) f derivation
+  pub accepted : Accepts (p .question .table) (p .question .fact) derivation f
+
+-- the reply to a question about a table: what a call of the question gives that has output enough for every limit
 pub record Reply (table : List ℕ) (q : Query) (bytes : List ℕ) : Type 0 where
   pub put : Put
-  pub asks : put .question ≡ question table (q .fact) (q .limit)
+  pub same-question : put .question ≡ question table (q .fact) (q .limit)
   pub room : needed 1024 ≤ length (put .entry)
-  -- first its number, place and count; then the derivation, if there is one
+  -- first its number, place and count; then the derivation behind a yes, and behind anything else nothing
   pub derivation : List ℕ
   pub is : bytes ≡ heading (said put) ++ derivation
-  pub plain : (said put .number ≡ 90 → ⊥) → derivation ≡ []
-  -- behind 90 stands the derivation that the call printed: sound, in order, of 2 f - 1 lines, and accepted by the check with f
-  pub yes : (f : ℕ) → YesWith (said put) f
-      → (facts : List Fact) × SoundTable table facts × (put .exit ≡ over derivation (put .entry)) × Prints facts (q .fact) f derivation × Accepts table (q .fact) derivation f
+  pub behind : ((f : ℕ) × Shown put f derivation) ⊎ ((said put .number ≡ 90 → ⊥) × (derivation ≡ []))
 
 -- the replies to some questions, one behind the other
 pub data Replies (table : List ℕ) : List Query → List ℕ → Type 0 where
@@ -103,6 +114,10 @@ pub record Demand-1 : Type 1 where
   pub write-unchanged : {row entry exit : List ℕ} {n : ℕ} → WriteCall row entry exit n → (r : Refusal) (place : ℕ) → RefusedWith (unpacked n) r place → exit ≡ entry
   -- the program: an input that is not laid out as document 01 writes it down gets one line, 9
   pub program-torn : (b : List ℕ) → ((table : List ℕ) (qs : List Query) → Laid b table qs → ⊥) → outputOf b ≡ line (numberOf Form ∷ 0 ∷ 0 ∷ [])
+  -- what "laid out" means in all of these: k fields and byte 10 are laid out exactly where they are the line of k numbers of at most five
+  -- digits, and those are the numbers that they say
+  pub layout : (k : ℕ) (b : List ℕ) (at : ℕ) → at + width k ≤ length b
+      → laidOut k b at ≡ true ↔ ((ns : List ℕ) × (length ns ≡ k) × Below ns × (drop at b ≡ line ns ++ drop (at + width k) b) × (numbersAt k b at ≡ ns))
 
 -- ---- demand 2
 
@@ -114,15 +129,22 @@ pub record Demand-2 : Type 1 where
   pub question-sound : (q : Question) (m : ℕ) → ((facts : List Fact) × SoundQuestion q facts m) ↔ ((r : Refusal) (place : ℕ) → QuestionRefused q m r place → ⊥)
   pub check-sound : (b : List ℕ) (t : Fact) (x : List ℕ) → ((facts : List Fact) × (n : ℕ) × SoundCheck b facts t x n) ↔ ((r : Refusal) (place : ℕ) → CheckRefused b t x r place → ⊥)
   -- "With a sound table, fact, allowance and paper an answer always comes."
-  pub answered : (p : Put) (facts : List Fact) → SoundPut p facts → ((f : ℕ) × Follows (said p) f) ⊎ SaysNo (said p)
+  pub answered : (p : Put) (facts : List Fact) → SoundPut p facts → ((f : ℕ) × SaysFollows (said p) f) ⊎ SaysNo (said p)
   -- "Yes or "long" comes when some finite derivation by the published rules as our papers list them, from the table's facts, ends in the fact
   -- put, and only then;"
-  pub follows : (p : Put) (facts : List Fact) → SoundPut p facts → ((f : ℕ) × Follows (said p) f) ↔ Derivable Rule facts (p .question .fact)
+  pub follows : (p : Put) (facts : List Fact) → SoundPut p facts → ((f : ℕ) × SaysFollows (said p) f) ↔ Derivable Rule facts (p .question .fact)
   -- "no when some set of facts closed under the rules holds the table and lacks that fact, and only then."
   pub refuted : (p : Put) (facts : List Fact) → SoundPut p facts → SaysNo (said p) ↔ Refuted Rule facts (p .question .fact)
   -- "The check accepts exactly the derivations of at most 2,047 lines."
   pub checked : {b : List ℕ} {t : Fact} {x : List ℕ} {n : ℕ} → CheckCall b t x n → (facts : List Fact) → SoundTable b facts → T (wellFormed t)
       → (c : ℕ) → AcceptedWith (unpacked n) c ↔ DerivationOf facts t x c
+  -- reading and writing that is done gives 0 and the number of facts, and fills the front of the lent memory
+  pub read-done : {b entry exit : List ℕ} {n : ℕ} {facts : List Fact} → ReadCall b entry exit n → SoundTable b facts → 3 * length facts ≤ length entry
+      → DoneWith (unpacked n) (length facts) × (exit ≡ over (rowOf facts) entry)
+  pub facts-done : {b : List ℕ} {entry exit : List Fact} {a : Answer} {facts : List Fact} → TransfersRecords b entry exit a → SoundTable b facts → length facts ≤ length entry
+      → DoneWith (codeOf a) (length facts) × (exit ≡ overRecords facts entry)
+  pub write-done : {row entry exit : List ℕ} {n : ℕ} {facts : List Fact} → WriteCall row entry exit n → SoundRow row facts → 16 * length facts ≤ length entry
+      → DoneWith (unpacked n) (length facts) × (exit ≡ over (tableBytes facts) entry)
   -- "A table read and written again has the same bytes." Reading fills the front of a row of at least 3 numbers a fact, and those very
   -- numbers are written into memory of at least 16 bytes a fact; each gives 0 and the number of facts
   pub read-written : {b row row′ out out′ : List ℕ} {n m : ℕ} {facts : List Fact} → SoundTable b facts → 3 * length facts ≤ length row → 16 * length facts ≤ length out
@@ -138,18 +160,18 @@ pub record Demand-2 : Type 1 where
 pub record Demand-3 : Type 1 where
   -- "Whatever sound table, fact and allowance are put, and whatever the paper held before, the count given with yes or "long" is the least,
   -- document 01's f." It never exceeds the table's facts.
-  pub least : (p : Put) (facts : List Fact) → SoundPut p facts → (f : ℕ) → Follows (said p) f → Least Rule facts (p .question .fact) f × (f ≤ length facts)
+  pub least : (p : Put) (facts : List Fact) → SoundPut p facts → (f : ℕ) → SaysFollows (said p) f → Least Rule facts (p .question .fact) f × (f ≤ length facts)
   -- "Every derivation of that fact by those rules, of any length, over the table or over any accepted table whose facts all stand in it, has at
   -- least as many table lines."
-  pub no-fewer : (p : Put) (facts : List Fact) → SoundPut p facts → (f : ℕ) → Follows (said p) f
+  pub no-fewer : (p : Put) (facts : List Fact) → SoundPut p facts → (f : ℕ) → SaysFollows (said p) f
       → (part : List Fact) → Within part facts → (d : List Line) → Derives Rule part d (p .question .fact) → f ≤ tableLines d
   -- "So has each that the check accepts over them, by the number it gives."
-  pub no-fewer-checked : (p : Put) (facts : List Fact) → SoundPut p facts → (f : ℕ) → Follows (said p) f
+  pub no-fewer-checked : (p : Put) (facts : List Fact) → SoundPut p facts → (f : ℕ) → SaysFollows (said p) f
       → (b : List ℕ) (part : List Fact) → SoundTable b part → Within part facts → (x : List ℕ) (n : ℕ) → CheckCall b (p .question .fact) x n
       → (c : ℕ) → AcceptedWith (unpacked n) c → f ≤ c
   -- "With every sound allowance, and paper for it, that fact gets yes or "long" with the same count, and yes exactly when the allowance is at
   -- least that count."
-  pub same-count : (p : Put) (facts : List Fact) → SoundPut p facts → (f : ℕ) → Follows (said p) f
+  pub same-count : (p : Put) (facts : List Fact) → SoundPut p facts → (f : ℕ) → SaysFollows (said p) f
       → (p′ : Put) (limit : ℕ) → p′ .question ≡ question (p .question .table) (p .question .fact) limit → SoundPut p′ facts
       → (f ≤ limit ↔ YesWith (said p′) f) × (limit < f ↔ LongWith (said p′) f)
   -- "With each yes the box prints a derivation with exactly that many table lines, of the length and in the order laid down in document 01, and
@@ -163,5 +185,8 @@ pub record Demand-3 : Type 1 where
       × ((b : List ℕ) → SoundTable b part → (x : List ℕ) (n : ℕ) → CheckCall b (p .question .fact) x n → (c : ℕ) → AcceptedWith (unpacked n) c → ⊥)
   -- "91 and 92 write nothing."
   pub unwritten : (p : Put) (f : ℕ) → LongWith (said p) f ⊎ SaysNo (said p) → p .exit ≡ p .entry
-  -- what the program prints for an input that is laid out: the reply to each question, in order, and nothing else
+  -- what the program is to print for an input that is laid out: the reply to each question, in order, and nothing else
   pub program : (b table : List ℕ) (qs : List Query) → Laid b table qs → Replies table qs (outputOf b)
+  -- it is put together of what the contracts of `input::layout`, `replies::reply` and `replies::refusal` speak of
+  pub pieces : (b : List ℕ) (size n m : ℕ) → layoutOf b ≡ Parts size n → longest ≤ m → outputOf b ≡ flat (λ k. replyIn b size k m) (itemsFrom (λ k. k) 0 n)
+  pub torn-piece : (b : List ℕ) → layoutOf b ≡ Torn → outputOf b ≡ codeLine (Refused Form 0)

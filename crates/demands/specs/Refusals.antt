@@ -1,18 +1,18 @@
 -- Which refusal document 01 lays down for an input: the first that applies, in the order in which its papers try them; and what is sound,
--- said of what it is. Nothing here speaks of a scan, a test or an answer of the program.
+-- said of what it is. Nothing here speaks of a scan or an answer of the program. The tests of one line or fact are those of the table's
+-- `earns`; that a line is laid out as its numbers are written is `Demand-1`, field `layout`.
 -- Assumes nothing.
 use mathlib.Core.Path.{_≡_}
 use mathlib.Core.Bool.{Bool, false, true}
-use mathlib.Core.List.{List}
+use mathlib.Core.List.{List, [], _∷_}
 use Prim.Native.Nat.{ℕ, suc, _-_, _*_, _≤_, _<_}
 use lib.ListN.{length}
 use lib.Dec.{T}
 use Rattle.columns.specs.Lines.{laidOut}
 use Rattle.facts.specs.declared.Fact.{Fact}
 use Rattle.facts.specs.declared.Refusal.{Refusal}
-use Rattle.facts.specs.declared.Refusal.the-variants.{Size, Allowance, Short, Form, Step, End}
-use Rattle.facts.specs.declared.Verdict.the-variants.{Faulty}
-use Rattle.facts.specs.Facts.{wellFormed, faultOf}
+use Rattle.facts.specs.declared.Refusal.the-variants.{Size, Term, Blank, Part, Allowance, Short, Form, Step, End}
+use Rattle.facts.specs.Facts.{wellFormed}
 use Rattle.table.specs.Scans.{earns, tried, First}
 use Rattle.table.specs.Tables.{TableFacts, rowOf, tableBytes, lineFact, rowFact}
 use Rattle.rules.specs.Graph.{_∈_}
@@ -50,15 +50,15 @@ pub record SoundCheck (b : List ℕ) (facts : List Fact) (t : Fact) (x : List �
 -- ---- a table, and a row to write
 
 -- so many bytes or numbers are n lines of k, at most 1,024
-pub record Whole (k size n : ℕ) : Type 0 where
+pub record WholeLines (k size n : ℕ) : Type 0 where
   pub exact : size ≡ k * n
   pub few : n ≤ 1024
 
 -- 1 with place 0; or the first line that earns any of 2 to 6, by the first of these, in that order, that it earns; lines are counted from
 -- 1, and `earned i` is what line i + 1 earns
 pub data LinesRefused (k size : ℕ) (earned : ℕ → Refusal → Bool) : Refusal → ℕ → Type 0 where
-  by-size : ((n : ℕ) → Whole k size n → ⊥) → LinesRefused k size earned Size 0
-  by-line : {n i : ℕ} {r : Refusal} → Whole k size n → i < n → ((j : ℕ) → j < i → (q : Refusal) → q ∈ tried → earned j q ≡ false)
+  by-size : ((n : ℕ) → WholeLines k size n → ⊥) → LinesRefused k size earned Size 0
+  by-line : {n i : ℕ} {r : Refusal} → WholeLines k size n → i < n → ((j : ℕ) → j < i → (q : Refusal) → q ∈ tried → earned j q ≡ false)
       → First (earned i) tried r → LinesRefused k size earned r (suc i)
 
 -- a table: lines of 16 bytes
@@ -83,9 +83,9 @@ pub data WriteRefused (row : List ℕ) (m : ℕ) : Refusal → ℕ → Type 0 wh
 
 -- ---- question and check
 
--- the triple earns the first of 3, 4, 5
+-- the first of 3, 4, 5, in that order, that the triple earns
 abbrev pub FactRefused : Fact → Refusal → Type 0
-FactRefused t r = faultOf t ≡ Faulty r
+FactRefused t = First (earns true (λ i. t) 0) (Term ∷ Blank ∷ Part ∷ [])
 
 -- a question: the table's, the triple's, 7 for the limit, 8 for m bytes of output
 pub data QuestionRefused (q : Question) (m : ℕ) : Refusal → ℕ → Type 0 where

@@ -45,8 +45,8 @@ abbrev pub LongWith : Code → ℕ → Type 0
 LongWith c f = c ≡ numbered 92 0 f
 
 -- yes or "long", with the count f
-abbrev pub Follows : Code → ℕ → Type 0
-Follows c f = YesWith c f ⊎ LongWith c f
+abbrev pub SaysFollows : Code → ℕ → Type 0
+SaysFollows c f = YesWith c f ⊎ LongWith c f
 
 -- no
 abbrev pub SaysNo : Code → Type 0

@@ -1,7 +1,7 @@
 -- Laws of the question: what its answer means, and that what is printed is a derivation of exactly the fewest table lines.
 -- Assumes nothing.
 use mathlib.Core.Path.{_≡_, refl, sym, ap, _∙_, subst}
-use mathlib.Core.Logic.{inl, ⊎-elim}
+use mathlib.Core.Logic.{_⊎_, inl, inr, ⊎-elim}
 use mathlib.Core.Option.{Option, none, some, Option·map}
 use mathlib.Core.List.{List, _++_, map}
 use Prim.Native.Nat.{ℕ, suc, _*_, _≤_, _<_}
@@ -17,10 +17,10 @@ use Rattle.facts.specs.declared.Verdict.the-variants.{Sound, Faulty}
 use Rattle.facts.specs.declared.Answer.{Answer}
 use Rattle.facts.specs.declared.Answer.the-variants.{Yes, No, Long, Refused}
 use Rattle.facts.specs.Facts.{fact, wellFormed, faultOf, orElse}
-use Rattle.facts.specs.Answers.{codeOf, YesWith, LongWith, Follows, SaysNo}
+use Rattle.facts.specs.Answers.{codeOf, YesWith, LongWith, SaysFollows, SaysNo, RefusedWith}
 use Rattle.facts.proofs.Terms.{by-cases}
 use Rattle.facts.proofs.Facts.{fault-none}
-use Rattle.facts.proofs.Codes.{told-yes, told-long, told-no}
+use Rattle.facts.proofs.Codes.{told-yes, told-long, told-no, told-refused}
 use Rattle.columns.specs.Lines.{over}
 use Rattle.table.specs.Tables.{Table, accepted, refused, tableOf, rowOf, rowFact, loaded}
 use Rattle.table.proofs.Rows.{loaded-accepted}
@@ -38,7 +38,7 @@ use Rattle.rules.proofs.Chosen.{chosen-fewest, chosen-path, chosen-printable}
 use Rattle.rules.proofs.Printed.{path-count}
 use Rattle.derivation.proofs.Bytes.{derivation-length}
 use Rattle.question.specs.Row.{factsOf, Sorted}
-use Rattle.question.specs.Question.{questionFault, needed, asked, answerBy, answerOf, unless, answerFrom, questionAnswer, printedOf, printedFor, printedFrom, written, outputAfter, Question, question, Answers, Prints, Means}
+use Rattle.question.specs.Question.{questionFault, needed, asked, answerBy, answerOf, unless, answerFrom, questionAnswer, printedOf, printedFor, printedFrom, written, outputAfter, Question, question, Answered, Prints, Meaning, Means}
 
 -- ---- the answer
 
@@ -78,6 +78,11 @@ module _ (table : List ℕ) (t : Fact) (facts : List Fact) (is : tableOf table �
   pub answer-accepted : (limit size : ℕ) → questionAnswer table t limit size ≡ unless (asked t limit size) (answerOf facts t limit)
   unfolding questionAnswer answerFrom
   answer-accepted limit size = rw is
+
+  -- and for a well-formed fact, a limit of at most 1,024 and the output that it asks for
+  pub answer-sound : (limit size : ℕ) → T (wellFormed t) → limit ≤ 1024 → needed limit ≤ size → questionAnswer table t limit size ≡ answerOf facts t limit
+  unfolding asked orElse questionFault unless
+  answer-sound limit size w few room = answer-accepted limit size ∙ rw (fault-none t .1 w, le-leb limit 1024 few, le-leb (needed limit) size room)
 
   -- yes with f: f is the fewest, and within the limit
   pub yes-fewest : (limit size f : ℕ) → questionAnswer table t limit size ≡ Yes f → (fewest facts t ≡ some f) × (f ≤ limit)
@@ -159,20 +164,34 @@ module _ (table : List ℕ) (t : Fact) (facts : List Fact) (is : tableOf table �
 -- ---- the contract
 
 -- what the answers mean of which the numbers are given
-module _ (q : Question) (entry exit : List ℕ) (a : Answer) (g : Answers q entry exit a) (facts : List Fact) (is : tableOf (q .table) ≡ accepted facts) where
+module _ (q : Question) (entry exit : List ℕ) (a : Answer) (g : Answered q entry exit a) (facts : List Fact) (is : tableOf (q .table) ≡ accepted facts) where
   given : (b : Answer) → a ≡ b → questionAnswer (q .table) (q .fact) (q .limit) (length entry) ≡ b
   given b e = sym (g .answer) ∙ e
 
-  given-fewest : (f : ℕ) → Follows (codeOf a) f → fewest facts (q .fact) ≡ some f
+  given-fewest : (f : ℕ) → SaysFollows (codeOf a) f → fewest facts (q .fact) ≡ some f
   given-fewest f =
       ⊎-elim (λ (y : YesWith (codeOf a) f). yes-fewest (q .table) (q .fact) facts is (q .limit) (length entry) f (given (Yes f) (told-yes y)) .0)
       (λ (y : LongWith (codeOf a) f). long-fewest (q .table) (q .fact) facts is (q .limit) (length entry) f (given (Long f) (told-long y)) .0)
 
-  given-printed : (f : ℕ) → YesWith (codeOf a) f → (x : List ℕ) × (exit ≡ over x entry) × Prints facts (q .fact) f x
+  given-printed : (f : ℕ) → YesWith (codeOf a) f
+      → (f ≤ q .limit) × (exit ≡ over (printedFor facts (q .fact)) entry) × Prints facts (q .fact) f (printedFor facts (q .fact))
   unfolding outputAfter written printedFrom
   given-printed f e =
-      let z = given-fewest f (inl e) in
-      (printedFor facts (q .fact), g .output ∙ rw (given (Yes f) (told-yes e), is), fewest-prints (q .table) (q .fact) facts is f z)
+      let z = yes-fewest (q .table) (q .fact) facts is (q .limit) (length entry) f (given (Yes f) (told-yes e)) in
+      (z .1, g .output ∙ rw (given (Yes f) (told-yes e), is), fewest-prints (q .table) (q .fact) facts is f (z .0))
+
+  given-comes : T (wellFormed (q .fact)) → q .limit ≤ 1024 → needed (q .limit) ≤ length entry → ((f : ℕ) × SaysFollows (codeOf a) f) ⊎ SaysNo (codeOf a)
+  given-comes w few room = go (fewest facts (q .fact)) refl
+    where
+      by : (o : Option ℕ) → fewest facts (q .fact) ≡ o → a ≡ answerBy (q .limit) o
+      by o e = g .answer ∙ answer-sound (q .table) (q .fact) facts is (q .limit) (length entry) w few room ∙ unfold answerOf in (rw e)
+
+      go : (o : Option ℕ) → fewest facts (q .fact) ≡ o → ((f : ℕ) × SaysFollows (codeOf a) f) ⊎ SaysNo (codeOf a)
+      go none e = inr (ap codeOf (by none e) ∙ unfold answerBy in refl)
+      go (some f) e =
+          by-cases (leb f (q .limit))
+          (λ y. inl (f, inl (ap codeOf (by (some f) e) ∙ unfold answerBy in (rw y))))
+          (λ y. inl (f, inr (ap codeOf (by (some f) e) ∙ unfold answerBy in (rw y))))
 
   given-longer : (f : ℕ) → LongWith (codeOf a) f → (q .limit < f) × (exit ≡ entry)
   unfolding outputAfter written
@@ -185,19 +204,30 @@ module _ (q : Question) (entry exit : List ℕ) (a : Answer) (g : Answers q entr
       (m .0, m .1, m .2, g .output ∙ rw (given No (told-no e)))
 
 -- the equations of a call say what its answer means
-pub answers-mean : (q : Question) (entry exit : List ℕ) (a : Answer) → Answers q entry exit a → Means q entry exit (codeOf a)
-answers-mean q entry exit a g facts is = record {
+pub answered-means : (q : Question) (entry exit : List ℕ) (a : Answer) → Answered q entry exit a → (facts : List Fact) → tableOf (q .table) ≡ accepted facts → Meaning q entry exit (codeOf a) facts
+answered-means q entry exit a g facts is = record {
+  comes = given-comes q entry exit a g facts is;
   least = λ f h. fewest-meant (q .table) (q .fact) facts is f (given-fewest q entry exit a g facts is f h);
   printed = given-printed q entry exit a g facts is;
   longer = given-longer q entry exit a g facts is;
   none = given-none q entry exit a g facts is;
 }
 
+unwritten : (q : Question) (entry exit : List ℕ) (a : Answer) → Answered q entry exit a → (r : Refusal) (place : ℕ) → RefusedWith (codeOf a) r place → exit ≡ entry
+unfolding outputAfter written
+unwritten q entry exit a g r place e = let z : questionAnswer (q .table) (q .fact) (q .limit) (length entry) ≡ Refused r place = sym (g .answer) ∙ told-refused e in g .output ∙ rw z
+
+pub answers-mean : (q : Question) (entry exit : List ℕ) (a : Answer) → Answered q entry exit a → Means q entry exit (codeOf a)
+answers-mean q entry exit a g = record {
+  sound = λ facts s b. answered-means q entry exit a g facts (tableOf-accepted (q .table) facts .1 (b, s));
+  refused = unwritten q entry exit a g;
+}
+
 -- the call, with what it means
 abbrev pub Said : Question → List ℕ → List ℕ → Answer → Type 0
-Said q entry exit a = Answers q entry exit a × Means q entry exit (codeOf a)
+Said q entry exit a = Answered q entry exit a × Means q entry exit (codeOf a)
 
-said : (q : Question) (entry exit : List ℕ) (a : Answer) → Answers q entry exit a → Said q entry exit a
+said : (q : Question) (entry exit : List ℕ) (a : Answer) → Answered q entry exit a → Said q entry exit a
 said q entry exit a g = (g, answers-mean q entry exit a g)
 
 -- a refused table, a refused question, and an answer from the facts

@@ -2,23 +2,25 @@
 -- limit is document 01's allowance, the output its paper.
 -- Assumes nothing.
 use mathlib.Core.Path.{_≡_}
+use mathlib.Core.Logic.{_⊎_}
 use mathlib.Core.Bool.{cond}
 use mathlib.Core.Option.{Option, none, some}
 use mathlib.Core.List.{List, [], map}
 use Prim.Native.Nat.{ℕ, suc, _+_, _-_, _*_, _≤_, _<_}
 use lib.ListN.{length}
-use lib.Dec.{leb}
+use lib.Dec.{T, leb}
 use Rattle.columns.specs.Lines.{over}
 use Rattle.facts.specs.declared.Fact.{Fact}
+use Rattle.facts.specs.declared.Refusal.{Refusal}
 use Rattle.facts.specs.declared.Refusal.the-variants.{Allowance, Short}
 use Rattle.facts.specs.declared.Verdict.{Verdict}
 use Rattle.facts.specs.declared.Verdict.the-variants.{Sound, Faulty}
 use Rattle.facts.specs.declared.Answer.{Answer}
 use Rattle.facts.specs.declared.Answer.the-variants.{Done, Yes, No, Long, Accepted, Refused}
 use Rattle.facts.specs.declared.Code.{Code}
-use Rattle.facts.specs.Facts.{faultOf, orElse}
-use Rattle.facts.specs.Answers.{Follows, YesWith, LongWith, SaysNo}
-use Rattle.table.specs.Tables.{Table, accepted, refused, tableOf}
+use Rattle.facts.specs.Facts.{wellFormed, faultOf, orElse}
+use Rattle.facts.specs.Answers.{SaysFollows, YesWith, LongWith, SaysNo, RefusedWith}
+use Rattle.table.specs.Tables.{Table, TableFacts, accepted, refused, tableBytes, tableOf}
 use Rattle.rules.specs.declared.Line.{Line}
 use Rattle.rules.specs.Rules.{Rule}
 use Rattle.rules.specs.Derivations.{Derives, Derivable, Closed, Holds, Least, tableLines}
@@ -122,7 +124,7 @@ abbrev pub question : List ℕ → Fact → ℕ → Question
 question table t limit = record { table = table; fact = t; limit = limit }
 
 -- the call, as equations: its answer, and the output afterwards
-pub record Answers (q : Question) (entry exit : List ℕ) (a : Answer) : Type 0 where
+pub record Answered (q : Question) (entry exit : List ℕ) (a : Answer) : Type 0 where
   pub answer : a ≡ questionAnswer (q .table) (q .fact) (q .limit) (length entry)
   pub output : exit ≡ outputAfter (q .table) (q .fact) (q .limit) entry
 
@@ -135,16 +137,21 @@ pub record Prints (facts : List Fact) (t : Fact) (f : ℕ) (x : List ℕ) : Type
   pub count : tableLines derivation ≡ f
   pub lines : suc (length derivation) ≡ f + f
 
--- what number, place and count then mean, over an accepted table with these facts
+-- what number, place and count then mean, over a table with these facts
 pub record Meaning (q : Question) (entry exit : List ℕ) (c : Code) (facts : List Fact) : Type 0 where
+  -- an answer comes: for a well-formed fact, a limit of at most 1,024, and the output that it asks for
+  pub comes : T (wellFormed (q .fact)) → q .limit ≤ 1024 → needed (q .limit) ≤ length entry → ((f : ℕ) × SaysFollows c f) ⊎ SaysNo c
   -- yes and long carry the fewest table lines of any derivation, and these are at most the table's facts
-  pub least : (f : ℕ) → Follows c f → Least Rule facts (q .fact) f × (f ≤ length facts)
-  -- yes: such a derivation stands in the front of the output, and what was behind it still does
-  pub printed : (f : ℕ) → YesWith c f → (x : List ℕ) × (exit ≡ over x entry) × Prints facts (q .fact) f x
-  -- long: it does not fit the limit
+  pub least : (f : ℕ) → SaysFollows c f → Least Rule facts (q .fact) f × (f ≤ length facts)
+  -- yes: they are within the limit, and the derivation with the name `printedFor` stands in the front of the output, where what was
+  -- behind it still does
+  pub printed : (f : ℕ) → YesWith c f
+      → (f ≤ q .limit) × (exit ≡ over (printedFor facts (q .fact)) entry) × Prints facts (q .fact) f (printedFor facts (q .fact))
+  -- long: they are not, and nothing is written
   pub longer : (f : ℕ) → LongWith c f → (q .limit < f) × (exit ≡ entry)
-  -- no: there is no derivation; the facts that have one are a closed set that holds the table and lacks the fact put
+  -- no: there is no derivation; the facts that have one are a closed set that holds the table and lacks the fact put; nothing is written
   pub none : SaysNo c → Closed Rule (Derivable Rule facts) × Holds (Derivable Rule facts) facts × (Derivable Rule facts (q .fact) → ⊥) × (exit ≡ entry)
 
-abbrev pub Means : Question → List ℕ → List ℕ → Code → Type 0
-Means q entry exit c = (facts : List Fact) → tableOf (q .table) ≡ accepted facts → Meaning q entry exit c facts
+pub record Means (q : Question) (entry exit : List ℕ) (c : Code) : Type 0 where
+  pub sound : (facts : List Fact) → TableFacts facts → q .table ≡ tableBytes facts → Meaning q entry exit c facts
+  pub refused : (r : Refusal) (place : ℕ) → RefusedWith c r place → exit ≡ entry

@@ -19,7 +19,7 @@ ghost use lib.ListN.{length};
 ghost use Rattle.facts.specs.Facts.{fact};
 ghost use Rattle.facts.specs.Answers.{codeOf};
 ghost use Rattle.question.specs.Row.{factsOf};
-ghost use Rattle.question.specs.Question.{needed, asked, answerOf, printedFor, written, Settling, question, Answers, Means};
+ghost use Rattle.question.specs.Question.{needed, asked, answerOf, printedFor, written, Settling, question, Answered, Means};
 
 // The most that a limit may be.
 const LIMIT_MOST: u32 = 1024;
@@ -78,7 +78,7 @@ fn settle(row: &[u32], n: usize, t: Fact, limit: u32, output: &mut [u8]) -> Answ
 // The question: whether the fact follows from the table, and from how few of its facts. The limit is document 01's allowance
 // and the output its paper: a yes writes the derivation into its front, any other answer leaves it as it was.
 pub fn question(table: &[u8], fact: Fact, limit: u32, output: &mut [u8]) -> Answer
-    ensures call { λ r. ⌜ Answers (question (now (table .entry)) fact limit) (now (output .entry)) (now (output .exit)) r ⌝ }
+    ensures call { λ r. ⌜ Answered (question (now (table .entry)) fact limit) (now (output .entry)) (now (output .exit)) r ⌝ }
     ensures meaning { λ r. ⌜ Means (question (now (table .entry)) fact limit) (now (output .entry)) (now (output .exit)) (codeOf r) ⌝ }
 {
     let mut row = [0u32; ROW_NUMBERS];
