@@ -14,7 +14,7 @@ use Rattle.columns.specs.Lines.{over}
 use Rattle.facts.specs.declared.Fact.{Fact}
 use Rattle.facts.specs.declared.Refusal.{Refusal}
 use Rattle.facts.specs.declared.Answer.{Answer}
-use Rattle.facts.specs.declared.Answer.the-variants.{Done, No, Long, Refused}
+use Rattle.facts.specs.declared.Answer.the-variants.{No, Long, Refused}
 use Rattle.facts.specs.declared.Code.{Code}
 use Rattle.facts.specs.Facts.{wellFormed}
 use Rattle.facts.specs.Answers.{codeOf, YesWith, LongWith, SaysFollows, SaysNo, AcceptedWith, DoneWith, RefusedWith}
@@ -22,7 +22,6 @@ use Rattle.facts.proofs.Terms.{by-cases}
 use Rattle.facts.proofs.Codes.{told-yes, told-long, told-no, told-refused}
 use Rattle.table.specs.Tables.{rowOf, tableBytes, tableOf, tableOfRow, accepted}
 use Rattle.table.proofs.Rows.{row-length, bytes-length, settle-done}
-use Rattle.table.proofs.Tables.{read-write}
 use Rattle.records.specs.Records.{overRecords, settledRecords, filledRecords, TransfersRecords}
 use Rattle.rules.specs.declared.Line.{Line}
 use Rattle.rules.specs.Graph.{_∈_}

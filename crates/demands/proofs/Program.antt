@@ -7,16 +7,14 @@ use mathlib.Core.List.{List, [], _∷_, _++_}
 use Prim.Native.Nat.{ℕ, _+_, _≤_}
 use native.Mathlib.Omega.{arith}
 use lib.ListN.{length, drop, replicate, length-replicate}
-use Rattle.columns.specs.Lines.{line, Below, width, numbersAt, laidOut, over, flat}
+use Rattle.columns.specs.Lines.{line, Below, width, numbersAt, laidOut, flat}
 use Rattle.columns.proofs.Lines.{line-read, line-written, numbers-length}
-use Rattle.facts.specs.declared.Fact.{Fact}
 use Rattle.facts.specs.declared.Refusal.{Refusal}
 use Rattle.facts.specs.declared.Refusal.the-variants.{Size, Column, Term, Blank, Part, Order, Allowance, Short, Form, Step, End}
 use Rattle.facts.specs.declared.Answer.{Answer}
 use Rattle.facts.specs.declared.Answer.the-variants.{Done, Yes, No, Long, Accepted, Refused}
 use Rattle.facts.specs.declared.Code.{Code}
 use Rattle.facts.specs.Answers.{codeOf, numberOf}
-use Rattle.facts.proofs.Codes.{told-yes}
 use Rattle.table.specs.Tables.{tableOf}
 use Rattle.question.specs.Question.{needed, questionAnswer, outputAfter, printedFor, printedFrom, written, Question, question, Prints}
 use Rattle.question.proofs.Answered.{yes-fewest, yes-input, fewest-prints}
@@ -29,7 +27,6 @@ use Rattle.batch.specs.Output.{codeLine, behindCode, replyTo, outputBy, outputO
 use Rattle.batch.specs.Whole.{Laid}
 use Rattle.batch.proofs.Whole.{laid-output, torn-output}
 use Rattle.confirms.proofs.Confirms.{prints-accepted}
-use Rattle.demands.specs.Refusals.{SoundTable}
 use Rattle.demands.specs.Demands as demands
 use Rattle.demands.specs.Demands.{Put, said, Shown, Reply, Replies}
 use Rattle.demands.proofs.Refusals.{sound-table}

@@ -2,8 +2,8 @@
 -- Assumes nothing.
 use mathlib.Core.Path.{_≡_}
 use mathlib.Core.Bool.{true}
-use mathlib.Core.List.{List}
-use Prim.Native.Nat.{ℕ}
+use mathlib.Core.List.{List, [], _++_}
+use Prim.Native.Nat.{ℕ, _≤_}
 use lib.ListN.{length}
 use Rattle.columns.specs.Lines.{flat, itemsFrom}
 use Rattle.batch.specs.Output.{replyIn}
@@ -13,6 +13,17 @@ use Rattle.printer.specs.declared.Printed.{Printed}
 abbrev pub replies : List ℕ → ℕ → ℕ → List ℕ
 replies input table n = flat (λ k. replyIn input table k 63473) (itemsFrom (λ k. k) 0 n)
 
--- where all of these bytes were written, they were so many
-abbrev pub Counted : List ℕ → Printed → Type 0
-Counted output r = r .whole ≡ true → r .bytes ≡ length output
+-- so many bytes are a front of the output, and all of it where the whole is said to be written
+pub record Counted (output : List ℕ) (r : Printed) : Type 0 where
+  pub front : List ℕ
+  pub rest : List ℕ
+  pub parts : output ≡ front ++ rest
+  pub bytes : r .bytes ≡ length front
+  pub whole : r .whole ≡ true → rest ≡ []
+
+-- of n replies the front is the first ones, each of them whole
+pub record CountedReplies (input : List ℕ) (table n : ℕ) (r : Printed) : Type 0 where
+  pub count : ℕ
+  pub within : count ≤ n
+  pub bytes : r .bytes ≡ length (replies input table count)
+  pub whole : r .whole ≡ true → count ≡ n

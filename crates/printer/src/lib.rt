@@ -1,5 +1,6 @@
 // What the program prints for an input (document 01, "Panel and program"), to standard output, piece by piece. What the pieces
-// are is said by `batch`. A contract can't say what is written: here the length is proved, and the bytes are seen by running.
+// are is said by `batch`. A contract can't say what is written: here the number of bytes that is returned is proved, and the
+// bytes themselves are seen by running.
 use batch::Input;
 use facts::Answer;
 use facts::Refusal;
@@ -9,9 +10,9 @@ ghost use mathlib.Core.Path.{_≡_};
 ghost use Prim.Native.Nat.{_≤_};
 ghost use lib.ListN.{length};
 ghost use Rattle.batch.specs.Output.{codeLine, outputOf};
-ghost use Rattle.printer.specs.Replies.{replies, Counted};
+ghost use Rattle.printer.specs.Replies.{Counted, CountedReplies};
 
-// Whether all was written, and then its length. Where a write failed, nothing more was tried: `bytes` is what went before it.
+// Whether all was written, and the bytes of the pieces that were. Where a write failed, nothing more was tried.
 pub struct Printed {
     pub whole: bool,
     pub bytes: usize,
@@ -27,7 +28,7 @@ fn reply_space() -> [u8; REPLY_BYTES]
 // Prints the reply to each question, up to the first that can't be written. Only one reply at a time is in memory.
 fn print_replies(input: &[u8], table: usize, questions: usize) -> Printed
     requires { ⌜ questions ≤ 2048 ⌝ }
-    ensures { λ r. ⌜ Counted (replies (now (input .entry)) table questions) r ⌝ }
+    ensures { λ r. ⌜ CountedReplies (now (input .entry)) table questions r ⌝ }
 {
     let mut out = reply_space();
     let mut printed = 0;
@@ -54,10 +55,15 @@ pub fn print_torn() -> Printed
     ensures { λ r. ⌜ Counted (codeLine (Answer.Refused Refusal.Form 0)) r ⌝ }
 {
     let line = replies::refusal();
-    let whole = io::write_all(STDOUT_FILENO, &line);
+    if io::write_all(STDOUT_FILENO, &line) {
+        return Printed {
+            whole: true,
+            bytes: line.len(),
+        };
+    }
     Printed {
-        whole: whole,
-        bytes: line.len(),
+        whole: false,
+        bytes: 0,
     }
 }
 

@@ -1,9 +1,9 @@
--- `printer::print_output` meets its contract: it prints the refusal or the replies, whose lengths are that of the output.
+-- `printer::print_output` meets its contract: it prints the refusal or the replies, of which the output is made up.
 -- Assumes nothing.
-use mathlib.Core.Path.{sym, ap, _∙_}
+use mathlib.Core.Path.{sym, _∙_}
 use denote.Ref.{now}
 use borrow.Author.Needs.{needs}
-use Rattle.printer.proofs.Few.{parts-few, torn-length, replies-length}
+use Rattle.printer.proofs.Few.{parts-few, torn-counted, replies-counted}
 use Rattle.printer.proofs.print_output.Statement.{statement}
 use Rattle.printer.proofs.print_output.Tie as tie
 
@@ -23,14 +23,13 @@ print-replies-requires : tie.Need-print-replies-requires
 print-replies-requires c κs = parts-few (now (c .before .before .before .before .before .args .input)) _ _ (sym (c .before .before .before .layout .ensures) ∙ c .before .table .given .1)
 
 returns : tie.Need-returns
-returns c w =
-    c .print-torn .ensures w
-    ∙ torn-length (now (c .before .before .before .before .before .args .input)) (sym (c .before .before .before .layout .ensures) ∙ c .before .enum-told .given .1)
+returns c =
+    torn-counted (now (c .before .before .before .before .before .args .input)) _ (sym (c .before .before .before .layout .ensures) ∙ c .before .enum-told .given .1) (c .print-torn .ensures)
 
 returns-2 : tie.Need-returns-2
-returns-2 c w =
-    c .print-replies .ensures w
-    ∙ replies-length (now (c .before .before .before .before .before .before .args .input)) _ _ (sym (c .before .before .before .before .layout .ensures) ∙ c .before .before .table .given .1)
+returns-2 c =
+    replies-counted (now (c .before .before .before .before .before .before .args .input)) _ _ _ (sym (c .before .before .before .before .layout .ensures) ∙ c .before .before .table .given .1)
+    (c .print-replies .ensures)
 
 pub print-output-spec : {M : Type 1} → statement M
 print-output-spec =

@@ -65,12 +65,14 @@ loop-again c =
     let more = flat-more (λ k. replyIn input table k 63473) (λ k. k) (l .k) in
     (omega arith, l .inv .1 ∙ sym (r .kept .1 .1 .1 .0), rw (more, length-append) (omega (arith, size, l .inv .2)), omega (arith, fits (c .before .before .before .before)))
 
--- a write failed: nothing is said of the length
+-- a write failed: the replies before it were printed
 returns : tie.Need-returns Inv-loop μ-loop
-returns c e = let z : _≡_ {A = ℕ} 0 1 = cc in absurd (omega arith)
+returns c =
+    let l = c .before .before .before .before .before .before .before .loop in
+    record { count = l .k; within = l .inv .0; bytes = l .inv .2; whole = λ e. let z : _≡_ {A = ℕ} 0 1 = cc in absurd (omega arith) }
 
 returns-2 : tie.Need-returns-2 Inv-loop μ-loop
-returns-2 c w = let e : c .before .loop .k ≡ c .before .before .before .before .args .questions = omega arith in c .before .loop .inv .2 ∙ rw e
+returns-2 c = let l = c .before .loop in record { count = l .k; within = l .inv .0; bytes = l .inv .2; whole = λ w. omega arith }
 
 pub print-replies-spec : {M : Type 1} → statement M
 print-replies-spec =
