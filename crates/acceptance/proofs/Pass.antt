@@ -20,7 +20,7 @@ use Rattle.rules.specs.Derivations.{tableLines}
 use Rattle.rules.specs.Steps.{same, justified}
 use Rattle.derivation.specs.Bytes.{lineAt}
 use Rattle.derivation.specs.Read.{readAt}
-use Rattle.derivation.proofs.Torn.{read-laid}
+use Rattle.derivation.proofs.Bytes.{read-laid}
 use Rattle.acceptance.specs.declared.Near.{Near}
 use Rattle.acceptance.specs.Check.{linesOf, formVerdict, stepVerdict, after, endAnswer, linesAnswer}
 use Rattle.acceptance.specs.Near.{Behind}

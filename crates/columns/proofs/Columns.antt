@@ -12,7 +12,7 @@ use Rattle.columns.specs.Fields.{column, joined, numberAt, isField, fiel
 use Rattle.columns.specs.Columns.{withDigit, firstDigit, digitMore}
 use Rattle.columns.proofs.Fields.{column-digit, bytes-of, has-field, field-below}
 
-by-cases : {X : Type 0} (b : Bool) → (b ≡ true → X) → (b ≡ false → X) → X
+pub by-cases : {X : Type 0} (b : Bool) → (b ≡ true → X) → (b ≡ false → X) → X
 by-cases true f g = f refl
 by-cases false f g = g refl
 

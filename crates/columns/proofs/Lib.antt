@@ -3,3 +3,4 @@ pub mod Columns
 pub mod Lines
 pub mod Lists
 pub mod Parts
+pub mod Torn
