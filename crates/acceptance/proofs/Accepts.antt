@@ -89,7 +89,6 @@ rule-below dom-data = omega arith
 rule-below range-data = omega arith
 
 justified-below : {table : List Fact} {before : List Line} {l : Line} → ((f : Fact) → f ∈ table → T (wellFormed f)) → length before ≤ 2047 → Justified Rule table before l → Below (lineNumbers l)
-unfolding Below
 justified-below wf h (by-table {f} m) = (omega arith, (omega arith, (omega arith, terms-below f (wf f m))))
 justified-below {before = before} wf h (by-rule {n} {i} {j} {p} {q} {r} e g s) =
     let a = factOn-within before i p e in

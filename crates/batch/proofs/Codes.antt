@@ -4,7 +4,7 @@ use mathlib.Core.Path.{_≡_, refl, sym, _∙_}
 use mathlib.Core.Logic.{_⊎_, ⊎-elim}
 use mathlib.Core.Bool.{Bool, true, false}
 use mathlib.Core.Option.{Option, none, some}
-use mathlib.Core.List.{List, [], _∷_}
+use mathlib.Core.List.{List}
 use Prim.Native.Nat.{ℕ, _-_, _/_, _≤_}
 use native.Mathlib.Omega.{arith}
 use lib.ListN.{length}
@@ -31,7 +31,7 @@ use Rattle.rules.specs.Paths.{fewest}
 use Rattle.question.specs.Question.{needed, questionFault, asked, answerBy, answerOf, unless, answerFrom, questionAnswer, printedFrom}
 use Rattle.question.proofs.Answered.{fewest-meant}
 use Rattle.batch.specs.declared.Query.{Query}
-use Rattle.batch.specs.Output.{codeLine, behindCode, replyTo}
+use Rattle.batch.specs.Output.{codeNumbers, codeLine, behindCode, replyTo}
 
 -- a code that fits its columns, and is not 8
 record Plain (c : Code) : Type 0 where
@@ -116,13 +116,16 @@ answer-plain table t limit = go (tableOf table) refl
     go (refused r place) is = rw is (refused-plain r place (omega (arith, table-number table r place is)) (table-place table r place is))
     go (accepted facts) is = rw is (judged facts is (asked t limit (needed 1024)) refl)
 
+-- each of its three numbers has a field
+pub code-below : (table : List ℕ) (t : Fact) (limit : ℕ) (a : Answer) → a ≡ questionAnswer table t limit (needed 1024) → Below (codeNumbers a)
+code-below table t limit a e =
+    let p : Plain (codeOf a) = rw e (answer-plain table t limit) in
+    (omega (arith, p .number), (omega (arith, p .place), (omega (arith, p .count), tt)))
+
 -- the first line of a reply reads as number, place and count of the answer, and the number is never 8
 pub reply-code : (table : List ℕ) (q : Query) (a : Answer) → a ≡ questionAnswer table (q .fact) (q .limit) (needed 1024)
-    → (laidOut 3 (replyTo table q) 0 ≡ true) × (numbersAt 3 (replyTo table q) 0 ≡ codeOf a .number ∷ codeOf a .place ∷ codeOf a .count ∷ []) × (codeOf a .number ≡ 8 → ⊥)
-unfolding replyTo codeLine Below
+    → (laidOut 3 (replyTo table q) 0 ≡ true) × (numbersAt 3 (replyTo table q) 0 ≡ codeNumbers a) × (codeOf a .number ≡ 8 → ⊥)
+unfolding replyTo codeLine
 reply-code table q a e =
-    let p : Plain (codeOf a) = rw e (answer-plain table (q .fact) (q .limit)) in
-    let code = codeOf a .number ∷ codeOf a .place ∷ codeOf a .count ∷ [] in
-    let below : Below code = (omega (arith, p .number), (omega (arith, p .place), (omega (arith, p .count), tt))) in
-    let r = line-read code (replyTo table q) (behindCode a (printedFrom (tableOf table) (q .fact))) 0 below (rw e) in
-    (r .0, r .1, p .not-short)
+    let r = line-read (codeNumbers a) (replyTo table q) (behindCode a (printedFrom (tableOf table) (q .fact))) 0 (code-below table (q .fact) (q .limit) a e) (rw e) in
+    (r .0, r .1, λ z. answer-plain table (q .fact) (q .limit) .not-short (rw (← e) z))

@@ -11,7 +11,7 @@ use lib.Seq.{length-take-le, take-at, drop-at, drop-drop, take-append-le, drop-a
 use lib.Dec.{eqb, leb}
 use borrow.Author.Tests.{eqb-true, eq-eqb, le-leb, leb-true}
 use Rattle.columns.specs.Fields.{numberAt}
-use Rattle.columns.specs.Lines.{line, numbersAt, laidOut, Below, flat, itemsFrom}
+use Rattle.columns.specs.Lines.{line, numbersAt, laidOut, flat, itemsFrom}
 use Rattle.columns.proofs.Fields.{both}
 use Rattle.columns.proofs.Lines.{line-length, line-read, line-written}
 use Rattle.columns.proofs.Lists.{flat-length}
@@ -44,7 +44,7 @@ module _ (b : List ℕ) (at : ℕ) where
       rw (line-written 3 b at h (x₁ .0) .0, n) (take-at zeroLine (drop (at + 16) b) 16 (line-length (0 ∷ 0 ∷ 0 ∷ [])))
 
   zero-read : take 16 (drop at b) ≡ zeroLine → isZeroLine b at ≡ true
-  unfolding isZeroLine Below
+  unfolding isZeroLine
   zero-read e =
       let d : drop at b ≡ zeroLine ++ drop 16 (drop at b) = sym (take-append-drop 16 (drop at b)) ∙ ap (λ x. x ++ drop 16 (drop at b)) e in
       let r = line-read (0 ∷ 0 ∷ 0 ∷ []) b (drop 16 (drop at b)) at (omega arith, (omega arith, (omega arith, tt))) d in

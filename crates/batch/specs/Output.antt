@@ -17,9 +17,13 @@ use Rattle.batch.specs.declared.Input.the-variants.{Torn, Parts}
 use Rattle.batch.specs.declared.Query.{Query}
 use Rattle.batch.specs.Input.{questionsBehind, layoutOf, questionAt}
 
--- the line with an answer's number, place and count
+-- an answer's number, place and count
+abbrev pub codeNumbers : Answer → List ℕ
+codeNumbers a = codeOf a .number ∷ codeOf a .place ∷ codeOf a .count ∷ []
+
+-- the line with them
 unfoldable pub codeLine : Answer → List ℕ
-codeLine a = line (codeOf a .number ∷ codeOf a .place ∷ codeOf a .count ∷ [])
+codeLine a = line (codeNumbers a)
 
 -- what follows it: the derivation behind a yes, and else nothing
 unfoldable pub behindCode : Answer → List ℕ → List ℕ

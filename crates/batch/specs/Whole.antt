@@ -22,7 +22,6 @@ questionLine q = line (queryNumbers q)
 
 -- each number of each question has at most five digits
 unfoldable pub AllBelow : List Query → Type 0
-unfolding Below
 AllBelow [] = Unit {0}
 AllBelow (q ∷ qs) = Below (queryNumbers q) × AllBelow qs
 

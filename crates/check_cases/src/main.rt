@@ -1,5 +1,6 @@
 // Runs the check on cases and prints the number, place and count of each answer. A case is a line of five fields (the bytes of its
 // table, the bytes of its derivation, and the fact put: subject, predicate, object), then those bytes.
+use columns::NO_FIELD;
 use facts::Answer;
 use facts::Fact;
 use libc::STDIN_FILENO;
@@ -21,10 +22,14 @@ fn input_space() -> [u8; INPUT_BYTES] {
     [0u8; INPUT_BYTES]
 }
 
-// Prints the number, place and count of an answer.
+// Prints the last five digits of the number, place and count of an answer.
 fn show(a: Answer) {
     let code = codes::code_of(a);
-    let numbers = [code.number, code.place, code.count];
+    let numbers = [
+        code.number % NO_FIELD,
+        code.place % NO_FIELD,
+        code.count % NO_FIELD,
+    ];
     let mut line = [0u8; ANSWER_BYTES];
     field_writer::put_line(&numbers, &mut line);
     io::write_all(STDOUT_FILENO, &line);

@@ -42,7 +42,7 @@ line-cons n ns = append-assoc (field n) (fields ns) (10 ∷ [])
 -- a line that is written is read back
 pub line-read : (ns : List ℕ) (s rest : List ℕ) (at : ℕ) → Below ns → drop at s ≡ line ns ++ rest
     → (laidOut (length ns) s at ≡ true) × (numbersAt (length ns) s at ≡ ns)
-unfolding Below laidOut numbersAt
+unfolding laidOut numbersAt
 line-read [] s rest at b e = unfold line fields in (eq-eqb _ _ (rw add-zero at (sym (getD-drop at s 0 0) ∙ ap (λ l. getD l 0 0) e)), refl)
 line-read (n ∷ ns) s rest at b e =
     let e₁ : drop at s ≡ field n ++ (line ns ++ rest) = e ∙ rw (line-cons, append-assoc) in
@@ -54,7 +54,7 @@ line-read (n ∷ ns) s rest at b e =
 -- what is laid out as a line is the line of its numbers, each below 100,000
 pub line-written : (k : ℕ) (s : List ℕ) (at : ℕ) → at + width k ≤ length s → laidOut k s at ≡ true
     → (drop at s ≡ line (numbersAt k s at) ++ drop (at + width k) s) × Below (numbersAt k s at)
-unfolding Below laidOut numbersAt
+unfolding laidOut numbersAt
 line-written zero s at h e = unfold line fields in (rw (drop-cons s at 0 (omega arith), eqb-true (getD s at 0) 10 e, add-one), tt)
 line-written (suc k) s at h e =
     let b = both (isField s at) (laidOut k s (at + 5)) e in
@@ -75,3 +75,9 @@ laidOut-next k i s here h = let e : k - i ≡ suc (k - (i + 1)) = omega arith in
 pub laidOut-end : (k i : ℕ) (s : List ℕ) (here : ℕ) → i ≡ k → laidOut (k - i) s here ≡ eqb (getD s here 0) 10
 unfolding laidOut
 laidOut-end k i s here h = let e : k - i ≡ zero = omega arith in rw e
+
+-- a number of a line is below 100,000
+pub below-at : (ns : List ℕ) (i : ℕ) → Below ns → i < length ns → getD ns i 0 < 100000
+below-at [] i b h = absurd (omega arith)
+below-at (n ∷ ns) zero b h = b .0
+below-at (n ∷ ns) (suc i) b h = below-at ns i (b .1) (omega arith)

@@ -40,6 +40,12 @@ module _ {A : Type 0} where
   items-length at i zero = refl
   items-length at i (suc n) = ap suc (items-length at (suc i) n)
 
+  pub items-at : (at : ℕ → A) (i n j : ℕ) (d : A) → j < n → getD (itemsFrom at i n) j d ≡ at (i + j)
+  unfolding itemsFrom
+  items-at at i zero j d h = absurd (omega arith)
+  items-at at i (suc n) zero d h = rw add-zero
+  items-at at i (suc n) (suc j) d h = let e : i + suc j ≡ suc i + j = omega arith in rw e (items-at at (suc i) n j d (omega arith))
+
   -- one item more
   pub items-more : (at : ℕ → A) (i n : ℕ) → itemsFrom at i (suc n) ≡ itemsFrom at i n ++ (at (i + n) ∷ [])
   unfolding itemsFrom

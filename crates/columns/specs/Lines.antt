@@ -18,7 +18,7 @@ unfoldable pub line : List ℕ → List ℕ
 line ns = fields ns ++ (10 ∷ [])
 
 -- each number has at most five digits
-unfoldable pub Below : List ℕ → Type 0
+abbrev pub Below : List ℕ → Type 0
 Below [] = Unit {0}
 Below (n ∷ ns) = (n < 100000) × Below ns
 

@@ -7,8 +7,8 @@ ghost use mathlib.Core.Path.{_≡_};
 ghost use mathlib.Core.Bool.{not};
 ghost use Prim.Native.Nat.{_+_, _*_, _≤_};
 ghost use lib.ListN.{length};
-ghost use Rattle.columns.specs.Lines.{laidOut, over};
-ghost use Rattle.derivation.specs.Bytes.{lineBytes, lineAt};
+ghost use Rattle.columns.specs.Lines.{Below, laidOut, over};
+ghost use Rattle.derivation.specs.Bytes.{lineNumbers, lineBytes, lineAt};
 ghost use Rattle.derivation.specs.Read.{readAt};
 
 // The bytes of a line.
@@ -19,7 +19,7 @@ pub const DERIVATION_BYTES: usize = 63457;
 
 // Writes a line into the front of the output.
 pub fn put_line(l: Line, out: &mut [u8])
-    requires { ⌜ 31 ≤ length (now out) ⌝ }
+    requires { ⌜ (31 ≤ length (now out)) × Below (lineNumbers l) ⌝ }
     ensures { λ _. ⌜ now (out .exit) ≡ over (lineBytes l) (now (out .entry)) ⌝ }
 {
     let f = l.fact;

@@ -7,7 +7,7 @@ ghost use Prim.Native.Nat.{_+_, _*_, _/_, _≤_, _<_};
 ghost use lib.ListN.{length};
 ghost use lib.Seq.{sets};
 ghost use Rattle.columns.specs.Fields.{column, field};
-ghost use Rattle.columns.specs.Lines.{line, width, over};
+ghost use Rattle.columns.specs.Lines.{Below, line, width, over};
 
 // The byte in a column, where n is what the number has from that column leftwards, and left from the next.
 fn column_byte(n: u32, left: u32) -> u8
@@ -21,9 +21,9 @@ fn column_byte(n: u32, left: u32) -> u8
     }
 }
 
-// Writes a number below 100,000 into the five bytes from a place on.
+// Writes a number into the five bytes from a place on.
 fn put_field(out: &mut [u8], at: usize, n: u32)
-    requires { ⌜ at + 5 ≤ length (now out) ⌝ }
+    requires { ⌜ (at + 5 ≤ length (now out)) × (n < 100000) ⌝ }
     ensures { λ _. ⌜ now (out .exit) ≡ sets (now (out .entry)) at (field n) ⌝ }
 {
     if n < 10 {
@@ -47,7 +47,7 @@ fn put_field(out: &mut [u8], at: usize, n: u32)
 
 // Writes a line with the numbers into the front of the output.
 pub fn put_line(numbers: &[u32], out: &mut [u8])
-    requires { ⌜ width (length (now numbers)) ≤ length (now out) ⌝ }
+    requires { ⌜ (width (length (now numbers)) ≤ length (now out)) × Below (now numbers) ⌝ }
     ensures { λ _. ⌜ now (out .exit) ≡ over (line (now (numbers .entry))) (now (out .entry)) ⌝ }
 {
     let mut i = 0;

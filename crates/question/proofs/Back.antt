@@ -5,6 +5,7 @@ use mathlib.Core.Bool.{Bool, true, false, _&&_}
 use mathlib.Core.Option.{Option, none, some}
 use mathlib.Core.List.{List, [], _∷_, _++_, append-assoc}
 use Prim.Native.Nat.{ℕ, zero, suc, _+_, _-_, _≤_, _<_}
+use native.Mathlib.Nat.{zero-add}
 use native.Mathlib.Omega.{arith}
 use lib.ListN.{length, getD, set, drop, length-set}
 use lib.Seq.{drop-cons, getD-set-same, drop-set-lt}
@@ -19,12 +20,12 @@ use Rattle.facts.proofs.Terms.{by-cases, T-of}
 use Rattle.rules.proofs.Graph.{at-place, Answer, least-answer}
 use Rattle.rules.proofs.Chosen.{least-same, arrives-says, arrives-is, leads-some, back-one, from-some, from-is, by-read}
 use Rattle.table.specs.Tables.{rowFact}
-use Rattle.columns.specs.Lines.{itemsFrom, over}
+use Rattle.columns.specs.Lines.{over}
 use Rattle.question.specs.Row.{factsOf}
 use Rattle.question.specs.declared.State.{State}
 use Rattle.question.specs.State.{Way, Met}
 use Rattle.question.specs.Trace.{placeOr, precedes, beforeOf, comesBy, ending}
-use Rattle.columns.proofs.Lists.{items-length}
+use Rattle.columns.proofs.Lists.{items-length, items-at}
 use Rattle.question.proofs.Laws.{fact-in}
 
 both : (a b : Bool) → (T a → T b) → (T b → T a) → a ≡ b
@@ -65,14 +66,8 @@ module _ (p : ℕ → Bool) where
 
 -- ---- rows
 
-from-at : (row : List ℕ) (k n i : ℕ) → i < n → getD (itemsFrom (rowFact row) k n) i (fact 0 0 0) ≡ rowFact row (k + i)
-unfolding itemsFrom
-from-at row k zero i h = absurd (omega arith)
-from-at row k (suc n) zero h = let e : k ≡ k + 0 = omega arith in ap (rowFact row) e
-from-at row k (suc n) (suc i) h = let e : suc k + i ≡ k + suc i = omega arith in from-at row (suc k) n i (omega arith) ∙ ap (rowFact row) e
-
 pub at-fact : (row : List ℕ) (n i : ℕ) → i < n → getD (factsOf row n) i (fact 0 0 0) ≡ rowFact row i
-at-fact row n i h = let e : 0 + i ≡ i = omega arith in from-at row 0 n i h ∙ ap (rowFact row) e
+at-fact row n i h = rw (items-at (rowFact row) 0 n i (fact 0 0 0) h, zero-add)
 
 module _ (row : List ℕ) (n w : ℕ) (t : Fact) (f : ℕ) (s : State) (m : Met row n w t f s) where
   abbrev S : List Fact

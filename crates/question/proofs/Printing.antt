@@ -6,16 +6,24 @@ use Prim.Native.Nat.{ℕ, suc, _+_, _-_, _*_, _≤_, _<_}
 use native.Mathlib.Omega.{arith}
 use native.Mathlib.Nat.{zero-add}
 use native.Mathlib.Numerals.{add-one}
-use lib.ListN.{length, drop}
+use lib.ListN.{length, getD, drop}
 use lib.Seq.{drop-drop, drop-append-add}
-use Rattle.columns.specs.Lines.{over, flat, itemsFrom}
+use lib.Dec.{eqb}
+use borrow.Author.Needs.{needs}
+use Rattle.columns.specs.Lines.{Below, over, flat, itemsFrom}
 use Rattle.columns.proofs.Lists.{items-length, items-more, flat-append}
 use Rattle.facts.specs.declared.Fact.{Fact}
+use Rattle.facts.specs.Terms.{sc, sp, dom, range}
+use Rattle.facts.proofs.Terms.{by-cases}
+use Rattle.table.specs.Tables.{terms, rowFact}
+use Rattle.table.proofs.Tables.{row-below}
 use Rattle.rules.specs.declared.Line.{Line}
 use Rattle.rules.specs.Derivations.{derivationLine}
+use Rattle.rules.specs.Paths.{named}
 use Rattle.rules.specs.Printed.{join, joinAll, printed}
-use Rattle.derivation.specs.Bytes.{lineBytes, derivationBytes}
+use Rattle.derivation.specs.Bytes.{lineNumbers, lineBytes, derivationBytes}
 use Rattle.derivation.proofs.Bytes.{derivation-length}
+use Rattle.question.specs.Order.{Printing}
 
 -- a second piece, at least as long as the first, written over the front
 pub over-over : (X Y l : List ℕ) → length Y ≤ length X → over X (over Y l) ≡ over X l
@@ -78,6 +86,22 @@ printed-more d (g ∷ fs) f h =
       ap (λ (l : List Line). derivationLine 0 0 0 g ∷ l) (r .0 ∙ ap (λ (y : ℕ). joinAll g 1 fs ++ (derivationLine 0 0 0 f ∷ join (resultOf g 1 fs) y f ∷ [])) e),
       r .1 ∙ ap (λ (y : ℕ). join (resultOf g 1 fs) y f .fact) e,
     )
+
+-- ---- numbers
+
+-- the terms of a fact to print have at most five digits
+pub printing-below : {row places : List ℕ} {n f size : ℕ} → Printing row n f places size → (k : ℕ) → k < f → Below (terms (rowFact row (getD places k 0)))
+printing-below {row} {places} {n} p k h = row-below row n (getD places k 0) (p .formed) (p .placed .inside k h)
+
+-- where the terms of two facts have at most five digits, so have the numbers of the line that joins them
+pub join-below : (c : Fact) (i : ℕ) (f : Fact) → i < 4096 → Below (terms c) → Below (terms f) → Below (lineNumbers (join c i f))
+unfolding join
+join-below c i f h p q =
+    by-cases (named (f .predicate)) (λ a. rw a (search needs)) (λ a.
+    by-cases (eqb (f .predicate) sp) (λ b. rw (a, b) (search needs)) (λ b.
+    by-cases (eqb (f .predicate) dom) (λ d. rw (a, b, d) (search needs)) (λ d.
+    by-cases (eqb (f .predicate) range) (λ e. rw (a, b, d, e) (search needs)) (λ e.
+    by-cases (eqb (c .predicate) sc) (λ g. rw (a, b, d, e, g) (search needs)) (λ g. rw (a, b, d, e, g) (search needs))))))
 
 -- ---- bytes
 

@@ -5,10 +5,12 @@ use mathlib.Core.Logic.{_⊎_}
 use mathlib.Core.List.{List, _++_}
 use Prim.Native.Nat.{ℕ, suc, _*_, _-_, _≤_, _<_}
 use lib.ListN.{length, getD, take, drop}
+use lib.Dec.{T}
 use Rattle.columns.specs.Lines.{itemsFrom}
 use Rattle.facts.specs.declared.Fact.{Fact}
 use Rattle.rules.specs.Chosen.{printPlaces}
-use Rattle.table.specs.Tables.{rowFact}
+use Rattle.table.specs.Tables.{rowFact, allFormed}
+use Rattle.question.specs.Row.{factsOf}
 
 -- f places, at least one, each with a fact of the row
 pub record Placed (row : List ℕ) (n f : ℕ) (places : List ℕ) : Type 0 where
@@ -21,10 +23,11 @@ pub record Placed (row : List ℕ) (n f : ℕ) (places : List ℕ) : Type 0 wher
 abbrev pub factsAt : List ℕ → List ℕ → ℕ → List Fact
 factsAt row places k = itemsFrom (λ i. rowFact row (getD places i 0)) 0 k
 
--- f places, at most 1,024, and memory for 2 f - 1 lines
+-- f places, at most 1,024, of well-formed facts, and memory for 2 f - 1 lines
 pub record Printing (row : List ℕ) (n f : ℕ) (places : List ℕ) (size : ℕ) : Type 0 where
   pub placed : Placed row n f places
   pub few : f ≤ 1024
+  pub formed : T (allFormed (factsOf row n))
   pub fits : 31 * (2 * f - 1) ≤ size
 
 -- the k facts behind the first of f are sp facts, and the next, if there is one, is none

@@ -20,7 +20,7 @@ use Rattle.facts.specs.declared.Answer.the-variants.{Done, Yes, No, Long, Accep
 use Rattle.facts.specs.declared.Code.{Code}
 use Rattle.facts.specs.Facts.{wellFormed, faultOf, orElse}
 use Rattle.facts.specs.Answers.{SaysFollows, YesWith, LongWith, SaysNo, RefusedWith}
-use Rattle.table.specs.Tables.{Table, TableFacts, accepted, refused, tableBytes, tableOf}
+use Rattle.table.specs.Tables.{Table, TableFacts, accepted, refused, tableBytes, tableOf, allFormed}
 use Rattle.rules.specs.declared.Line.{Line}
 use Rattle.rules.specs.Rules.{Rule}
 use Rattle.rules.specs.Derivations.{Derives, Derivable, Closed, Holds, Least, tableLines}
@@ -28,7 +28,7 @@ use Rattle.rules.specs.Order.{InOrder}
 use Rattle.rules.specs.Paths.{fewest}
 use Rattle.rules.specs.Printed.{printed, printOrder}
 use Rattle.rules.specs.Chosen.{chosen, factIn}
-use Rattle.question.specs.Row.{Sorted}
+use Rattle.question.specs.Row.{factsOf, Sorted}
 use Rattle.derivation.specs.Bytes.{derivationBytes}
 
 -- ---- the answer
@@ -106,9 +106,10 @@ unfoldable pub outputAfter : List ℕ → Fact → ℕ → List ℕ → List ℕ
 unfolding written questionAnswer printedFrom
 outputAfter table t limit old = written (questionAnswer table t limit (length old)) (printedFrom (tableOf table) t) old
 
--- what the answer from a row's facts needs: that they ascend, a limit of at most 1,024, and the output that it asks for
+-- what the answer from a row's facts needs: that they ascend and are well-formed, a limit of at most 1,024, and the output that it asks for
 pub record Settling (row : List ℕ) (n limit size : ℕ) : Type 0 where
   pub sorted : Sorted row n
+  pub formed : T (allFormed (factsOf row n))
   pub limited : limit ≤ 1024
   pub room : needed limit ≤ size
 

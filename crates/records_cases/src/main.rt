@@ -1,5 +1,6 @@
 // Reads tables into lent fact records and prints the number, place and count of each answer, and 1 if every record is as it must be,
 // else 0. A case is a line of two fields (the bytes of its table, and how many records are lent), then those bytes.
+use columns::NO_FIELD;
 use facts::Answer;
 use facts::Fact;
 use libc::STDIN_FILENO;
@@ -105,7 +106,8 @@ fn are_due(table: &[u8], count: usize, facts: [Fact; RECORDS]) -> bool {
     true
 }
 
-// Reads a table into so many records, and prints the answer and whether every record is as it must be.
+// Reads a table into so many records, and prints the last five digits of each number of the answer, and whether every record is as it
+// must be.
 fn read_case(table: &[u8], lent: usize)
     requires { ⌜ lent ≤ 1025 ⌝ }
 {
@@ -115,7 +117,12 @@ fn read_case(table: &[u8], lent: usize)
     let code = codes::code_of(answer);
     let count = code.count;
     let due = are_due(table, count as usize, facts);
-    let numbers = [code.number, code.place, count, due as u32];
+    let numbers = [
+        code.number % NO_FIELD,
+        code.place % NO_FIELD,
+        count % NO_FIELD,
+        due as u32 % NO_FIELD,
+    ];
     let mut line = [0u8; ANSWER_BYTES];
     field_writer::put_line(&numbers, &mut line);
     io::write_all(STDOUT_FILENO, &line);

@@ -9,15 +9,15 @@ use table::LINE_BYTES;
 ghost use mathlib.Core.Path.{_≡_};
 ghost use Prim.Native.Nat.{_+_, _*_, _≤_};
 ghost use lib.ListN.{length};
-ghost use Rattle.columns.specs.Lines.{over};
-ghost use Rattle.batch.specs.Output.{codeLine, replySize, longest, replyTo, replyIn};
+ghost use Rattle.columns.specs.Lines.{Below, over};
+ghost use Rattle.batch.specs.Output.{codeNumbers, codeLine, replySize, longest, replyTo, replyIn};
 
 // The bytes of the longest reply: a line of three fields, and a derivation of 2,047 lines of 31 bytes.
 pub const REPLY_BYTES: usize = 63473;
 
 // Writes the line of an answer's number, place and count into the front of the output.
 fn put_code(a: Answer, out: &mut [u8])
-    requires { ⌜ 16 ≤ length (now out) ⌝ }
+    requires { ⌜ (16 ≤ length (now out)) × Below (codeNumbers a) ⌝ }
     ensures { λ _. ⌜ now (out .exit) ≡ over (codeLine a) (now (out .entry)) ⌝ }
 {
     let c = codes::code_of(a);

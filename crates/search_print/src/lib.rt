@@ -15,8 +15,9 @@ ghost use mathlib.Core.Path.{_≡_};
 ghost use mathlib.Core.List.{[], _∷_};
 ghost use Prim.Native.Nat.{_+_, _*_, _≤_, _<_};
 ghost use lib.ListN.{length};
-ghost use Rattle.columns.specs.Lines.{over};
+ghost use Rattle.columns.specs.Lines.{Below, over};
 ghost use Rattle.facts.specs.Facts.{fact};
+ghost use Rattle.table.specs.Tables.{terms};
 ghost use Rattle.rules.specs.Derivations.{derivationLine};
 ghost use Rattle.rules.specs.Printed.{join, printed};
 ghost use Rattle.derivation.specs.Bytes.{derivationBytes};
@@ -125,7 +126,7 @@ fn join_line(c: Fact, i: u32, f: Fact) -> Line
 
 // Writes f on a table line, and behind it the rule line that joins f to the result so far, c on line i. Gives the new result.
 fn put_joined(c: Fact, i: u32, f: Fact, out: &mut [u8]) -> Fact
-    requires { ⌜ (i < 4096) × (62 ≤ length (now out)) ⌝ }
+    requires { ⌜ (i < 4096) × (62 ≤ length (now out)) × Below (terms c) × Below (terms f) ⌝ }
     ensures result { λ r. ⌜ r ≡ join c i f .fact ⌝ }
     ensures lines { λ _. ⌜ now (out .exit) ≡ over (derivationBytes (derivationLine 0 0 0 f ∷ join c i f ∷ [])) (now (out .entry)) ⌝ }
 {

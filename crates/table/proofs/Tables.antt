@@ -11,7 +11,7 @@ use lib.ListN.{length, getD, drop, drop-of-length-le, take-append-drop, List·ge
 use lib.Seq.{drop-drop}
 use lib.Dec.{T}
 use Rattle.columns.specs.Lines.{line, laidOut, numbersAt, Below, flat, itemsFrom}
-use Rattle.columns.proofs.Lists.{flat-at, items-listed, lines-written, line-placed}
+use Rattle.columns.proofs.Lists.{flat-at, items-length, items-at, items-listed, lines-written, line-placed}
 use Rattle.facts.specs.declared.Fact.{Fact}
 use Rattle.facts.specs.declared.Refusal.{Refusal}
 use Rattle.facts.specs.declared.Refusal.the-variants.{Size}
@@ -36,8 +36,13 @@ numbers-terms b i = let e : 16 * i + 5 + 5 ≡ 16 * i + 10 = omega arith in rw e
 
 -- a well-formed fact's terms have at most five digits
 pub terms-below : (f : Fact) → T (wellFormed f) → Below (terms f)
-unfolding Below
 terms-below f w = let t = terms-within f w in (omega arith, (omega arith, (omega arith, tt)))
+
+-- and so have those of a row of well-formed facts
+pub row-below : (row : List ℕ) (n i : ℕ) → T (allFormed (itemsFrom (rowFact row) 0 n)) → i < n → Below (terms (rowFact row i))
+row-below row n i formed h =
+    let w = formed-at (itemsFrom (rowFact row) 0 n) i (fact 0 0 0) formed (rw items-length h) in
+    terms-below (rowFact row i) (rw (items-at (rowFact row) 0 n i (fact 0 0 0) h, zero-add) at w)
 
 -- the line of a fact in its place is laid out, and says that fact
 fact-placed : (facts : List Fact) (d : Fact) → T (allFormed facts) → (i : ℕ) → i < length facts

@@ -26,7 +26,7 @@ use Rattle.table.specs.Judged.{lacksField}
 pub torn-line : (b : List ℕ) (at : ℕ)
     → eqb (fieldAt b at) 100000 || eqb (fieldAt b (at + 5)) 100000 || eqb (fieldAt b (at + 10)) 100000 || not (eqb (getD b (at + 15) 0) 10) ≡ not (laidOut 3 b at)
 unfolding lacking
-torn-line b at = simp (or-assoc, add-assoc) (simp add-assoc at (lines.torn-line 3 b at))
+torn-line b at = simp or-assoc (simp add-assoc at (lines.torn-line 3 b at))
 
 -- the numbers of a well-formed fact are numbers of fields
 pub formed-whole : (f : Fact) → wellFormed f ≡ true → lacksField f ≡ false

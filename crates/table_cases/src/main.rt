@@ -3,6 +3,7 @@
 // writes a row, whose first numbers stand one to a line of two fields; the rest of the row is 0. For each case a line is printed:
 // number, place, count, and 1 where every lent number and byte is as it must be; behind a row that was written, its table.
 // tools/cases/table_cases.py writes the cases. Parts of memory are `[0..n]` and not `[..n]`: the prover then closes them by itself.
+use columns::NO_FIELD;
 use facts::Code;
 use libc::STDIN_FILENO;
 use libc::STDOUT_FILENO;
@@ -88,9 +89,14 @@ fn bytes_kept(bytes: &[u8], from: usize) -> bool
     check::same(&bytes[from..], &before[from..])
 }
 
-// Prints a case's answer, and whether memory is as it must be.
+// Prints the last five digits of each number of a case's answer, and whether memory is as it must be.
 fn show(code: Code, kept: bool) {
-    let numbers = [code.number, code.place, code.count, kept as u32];
+    let numbers = [
+        code.number % NO_FIELD,
+        code.place % NO_FIELD,
+        code.count % NO_FIELD,
+        kept as u32 % NO_FIELD,
+    ];
     let mut line = [0u8; CASE_BYTES];
     field_writer::put_line(&numbers, &mut line);
     io::write_all(STDOUT_FILENO, &line);

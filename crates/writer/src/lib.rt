@@ -12,8 +12,9 @@ use table_lines::row_fact;
 ghost use mathlib.Core.Path.{_≡_};
 ghost use Prim.Native.Nat.{_+_, _-_, _*_, _≤_, _<_};
 ghost use lib.ListN.{length};
+ghost use lib.Dec.{T};
 ghost use Rattle.columns.specs.Lines.{itemsFrom, over};
-ghost use Rattle.table.specs.Tables.{tableBytes, rowFact, tableOfRow, Transfers, scanOf};
+ghost use Rattle.table.specs.Tables.{tableBytes, rowFact, tableOfRow, Transfers, scanOf, allFormed};
 
 // Scans the facts of a row, up to the first that is refused.
 fn scan_row(row: &[u32]) -> Scan
@@ -50,7 +51,7 @@ fn scan_row(row: &[u32]) -> Scan
 
 // Writes the lines of a row's facts into the front of the output, each into the part that begins where the last ended.
 fn put_lines(row: &[u32], n: usize, out: &mut [u8])
-    requires { ⌜ (n ≤ 1024) × (3 * n ≤ length (now row)) × (16 * n ≤ length (now out)) ⌝ }
+    requires { ⌜ (n ≤ 1024) × (3 * n ≤ length (now row)) × (16 * n ≤ length (now out)) × T (allFormed (itemsFrom (rowFact (now row)) 0 n)) ⌝ }
     ensures { λ _. ⌜ now (out .exit) ≡ over (tableBytes (itemsFrom (rowFact (now (row .entry))) 0 n)) (now (out .entry)) ⌝ }
 {
     let mut i = 0;

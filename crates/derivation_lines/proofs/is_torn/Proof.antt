@@ -23,7 +23,7 @@ returns : tie.Need-returns
 unfolding readAt lacking
 returns c =
     let s = c .before .before .before .before .before .before .before .before in
-    rw (s .pre .1) (simp (or-assoc, add-assoc) (simp add-assoc at (torn-line 6 (now (s .args .bytes)) (31 * s .args .i))))
+    rw (s .pre .1) (simp or-assoc (simp add-assoc at (torn-line 6 (now (s .args .bytes)) (31 * s .args .i))))
 
 pub is-torn-spec : {M : Type 1} → statement M
 is-torn-spec = tie.close (tie.spec mul-result add-result shared-slice-read-result returns)

@@ -8,7 +8,7 @@ use native.Mathlib.Omega.{arith}
 use lib.Seq.{sets, length-take-le, take-length}
 use lib.ListN.{length, take, getD, set, length-set}
 use denote.Ref.{now}
-use Rattle.columns.proofs.Lines.{field-length, fields-length, fields-more}
+use Rattle.columns.proofs.Lines.{field-length, fields-length, fields-more, below-at}
 use Rattle.columns.proofs.Parts.{over-more}
 use Rattle.columns.specs.Fields.{field}
 use Rattle.columns.specs.Lines.{fields, line, over}
@@ -32,7 +32,7 @@ shared-slice-read-put-field : tie.Need-shared-slice-read-put-field Inv-loop μ-l
 shared-slice-read-put-field c = omega arith
 
 put-field-requires : tie.Need-put-field-requires Inv-loop μ-loop
-put-field-requires c κs = omega arith
+put-field-requires c κs = let s = c .before .before .before .before .before .before in (omega arith, below-at (now (s .args .numbers)) _ (s .pre .1) (omega arith))
 
 add-at : tie.Need-add-at Inv-loop μ-loop
 add-at c = omega arith

@@ -7,6 +7,7 @@ use lib.ListN.{length}
 use Rattle.facts.specs.declared.Fact.{Fact}
 use Rattle.table.specs.Tables.{tableOf, accepted}
 use Rattle.table.proofs.Rows.{scan-passes, scan-stops}
+use Rattle.table.proofs.Tables.{tableOf-accepted}
 use Rattle.question.proofs.Answered.{answered-table, answered-refused, answered-settled, asked-sound, loaded-facts, loaded-sorted}
 use borrow.Author.Needs.{needs}
 use Rattle.search.proofs.question.Statement.{statement}
@@ -47,11 +48,10 @@ settle-requires : tie.Need-settle-requires
 settle-requires c κs =
     let p = passes (c .before .before .before .before .before .before) in
     let s = asked-sound _ _ _ (sym (c .before .before .before .before .verdict .ensures) ∙ c .before .before .enum-told .given .1) in
+    let l = c .before .before .before .before .before .before .before .before .before .load in
     record {
-      sorted = loaded-sorted _ (p .0) (p .1) _ _ (c .before .before .before .before .before .before .before .before .before .load .ensures .1) _ (p .2) (omega (
-        arith,
-        c .before .before .before .before .before .before .before .before .before .load .kept .1 .0,
-      ));
+      sorted = loaded-sorted _ (p .0) (p .1) _ _ (l .ensures .1) _ (p .2) (omega (arith, l .kept .1 .0));
+      formed = rw (loaded-facts _ (p .0) (p .1) _ _ (l .ensures .1) _ (p .2)) (tableOf-accepted _ (p .0) .0 (p .1) .1 .formed);
       limited = s .0;
       room = s .1;
     }

@@ -57,6 +57,7 @@ print-requires c κs =
     record {
       placed = print-placed (a .row .now) (a .n) (a .t) _ (s .last .1 .1 .1 .0) (g .0 .0) (g .1) (s .ensures) (z .pre .sorted .whole) _ (c .before .before .before .print-order .ensures);
       few = omega (arith, found-few (a .row .now) (a .n) (a .t) _ (s .last .1 .1 .1 .0) (g .0 .0) (g .1) (s .ensures), z .pre .sorted .few);
+      formed = z .pre .formed;
       fits = omega (arith, z .pre .room, c .before .before .before .before .before .if1 .left);
     }
 

@@ -8,16 +8,16 @@ use native.Mathlib.Omega.{arith}
 use lib.ListN.{length, getD, length-take, length-drop}
 use borrow.Author.Needs.{needs}
 use borrow.Rule.Slice.PartMut.{same-len-mid}
-use Rattle.columns.specs.Lines.{over}
+use Rattle.columns.specs.Lines.{Below, over}
 use Rattle.columns.proofs.Parts.{part-more}
 use Rattle.facts.specs.declared.Fact.{Fact}
-use Rattle.table.specs.Tables.{rowFact}
+use Rattle.table.specs.Tables.{terms, rowFact}
 use Rattle.rules.specs.declared.Line.{Line}
 use Rattle.rules.specs.Derivations.{derivationLine}
 use Rattle.rules.specs.Printed.{join}
 use Rattle.derivation.specs.Bytes.{lineBytes, derivationBytes}
 use Rattle.derivation.proofs.Bytes.{derivation-length}
-use Rattle.question.proofs.Printing.{over-over, bytesOf, resultAt, bytes-length, bytes-first, result-first, bytes-more}
+use Rattle.question.proofs.Printing.{over-over, bytesOf, resultAt, bytes-length, bytes-first, result-first, bytes-more, printing-below, join-below}
 use Rattle.search_print.proofs.print.Statement.{statement}
 use Rattle.search_print.proofs.print.Tie as tie
 
@@ -27,7 +27,7 @@ factAt row path i = rowFact row (getD path i 0)
 
 abbrev Inv-loop : tie.InvT-loop
 Inv-loop row n f path out₀ c₀ k₀ i₀ at₀ out c k i at =
-    (1 ≤ k) × (k ≤ f) × (at ≡ 31 * (2 * k - 1)) × (i ≡ 2 * k - 1) × (length out ≡ length out₀) × (out ≡ over (bytesOf (factAt row path) k) out₀) × (c ≡ resultAt (factAt row path) k)
+    (1 ≤ k) × (k ≤ f) × (at ≡ 31 * (2 * k - 1)) × (i ≡ 2 * k - 1) × (length out ≡ length out₀) × (out ≡ over (bytesOf (factAt row path) k) out₀) × (c ≡ resultAt (factAt row path) k) × Below (terms c)
 
 abbrev μ-loop : tie.MeasureT-loop
 μ-loop row n f path out₀ c₀ k₀ i₀ at₀ out c k i at = f - k
@@ -54,20 +54,26 @@ table-line-requires : tie.Need-table-line-requires Inv-loop μ-loop
 table-line-requires c κs = search needs
 
 put-line-requires : tie.Need-put-line-requires Inv-loop μ-loop
-put-line-requires c κs = let z = c .before .before .before .before .before .before .before .before in omega (arith, z .pre .fits, z .pre .placed .some)
+put-line-requires c κs =
+    let z = c .before .before .before .before .before .before .before .before in
+    let f = c .before .before .row-fact .ensures ∙ ap (rowFact (z .args .row .now)) (c .before .before .before .wide .ensures) in
+    let below = printing-below (z .pre) 0 (z .pre .placed .some) in
+    (omega (arith, z .pre .fits, z .pre .placed .some), rw (c .before .table-line .ensures, f) (omega arith, (omega arith, (omega arith, below))))
 
 loop-holds : tie.Need-loop-holds Inv-loop μ-loop
 loop-holds c =
     let z = c .before .before .before .before .before .before .before .before .before .before .before in
     let g = factAt (z .args .row .now) (z .args .path .now) in
-    let e = first-line (c .before .before) in (
+    let e = first-line (c .before .before) in
+    let f = c .before .before .before .before .before .row-fact .ensures ∙ ap (rowFact (z .args .row .now)) (c .before .before .before .before .before .before .wide .ensures) in (
       omega arith,
       z .pre .placed .some,
       refl,
       refl,
       refl,
       e ∙ sym (over-over (bytesOf g 1) (bytesOf g 1) (z .args .out .now) (omega arith)) ∙ ap (over (bytesOf g 1)) (sym e),
-      c .before .before .before .before .before .row-fact .ensures ∙ ap (rowFact (z .args .row .now)) (c .before .before .before .before .before .before .wide .ensures) ∙ sym (result-first g),
+      f ∙ sym (result-first g),
+      rw f (printing-below (z .pre) 0 (z .pre .placed .some)),
     )
 
 mul-wide : tie.Need-mul-wide Inv-loop μ-loop
@@ -123,7 +129,8 @@ part-put-joined-end c = let z = c .before .before .before .before .before .befor
 
 put-joined-requires : tie.Need-put-joined-requires Inv-loop μ-loop
 put-joined-requires c κs = let z = c .before .before .before .before .before .before .before .before .before .before .before .before .before .before .before .before .before in
-    let l = c .before .before .before .before .before .loop in (
+    let l = c .before .before .before .before .before .loop in
+    let here = c .before .row-fact2 .ensures ∙ ap (rowFact (z .args .row .now)) (c .before .before .wide2 .ensures) in (
       omega (arith, l .inv .3, z .pre .few, c .before .before .before .before .loop-test .taken),
       simp (length-take, length-drop)
           (omega (
@@ -135,6 +142,8 @@ put-joined-requires c κs = let z = c .before .before .before .before .before .b
             c .before .before .before .before .loop-test .taken,
             c .before .before .before .before .before .before .before .before .put-line .kept .1 .0,
           )),
+      l .inv .7,
+      rw here (printing-below (z .pre) (l .k) (c .before .before .before .before .loop-test .taken)),
     )
 
 mul-at : tie.Need-mul-at Inv-loop μ-loop
@@ -202,6 +211,8 @@ loop-again c =
       same-len-mid (l .at) (length (l .out) - l .at) (l .out) (p .last .1 .1 .1 .0) (p .kept .1 .1 .1 .0) ∙ l .inv .4,
       e ∙ rw (m .0),
       p .ensures .0 ∙ rw (l .inv .6, l .inv .3, here) (sym (m .1)),
+      rw (p .ensures .0) (join-below (l .c) (l .i) (c .before .before .before .before .row-fact2 .result) (omega (arith, z .pre .few, l .inv .1, l .inv .3)) (l .inv .7)
+          (rw here (printing-below (z .pre) (l .k) (c .before .before .before .before .before .before .before .loop-test .taken))) .1 .1 .1),
     )
 
 same-length : tie.Need-same-length Inv-loop μ-loop

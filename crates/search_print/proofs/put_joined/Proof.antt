@@ -10,8 +10,9 @@ use Rattle.rules.specs.Printed.{join}
 use Rattle.derivation.specs.Bytes.{lineNumbers, lineBytes}
 use mathlib.Core.List.{List}
 use Prim.Native.Nat.{ℕ}
+use lib.ListN.{length-take, length-drop}
 use Rattle.columns.specs.Lines.{over}
-use Rattle.question.proofs.Printing.{two-lines}
+use Rattle.question.proofs.Printing.{two-lines, join-below}
 use borrow.Author.Needs.{needs}
 use Rattle.search_print.proofs.put_joined.Statement.{statement}
 use Rattle.search_print.proofs.put_joined.Tie as tie
@@ -20,7 +21,7 @@ table-line-requires : tie.Need-table-line-requires
 table-line-requires c κs = search needs
 
 put-line-requires : tie.Need-put-line-requires
-put-line-requires c κs = search needs
+put-line-requires c κs = rw (c .before .table-line .ensures) (search needs)
 
 join-line-requires : tie.Need-join-line-requires
 join-line-requires c κs = search needs
@@ -35,7 +36,9 @@ part-put-line-end : tie.Need-part-put-line-end
 part-put-line-end c = search needs
 
 put-line-requires-2 : tie.Need-put-line-requires-2
-put-line-requires-2 c κs = search needs
+put-line-requires-2 c κs =
+    let z = c .before .before .before .before .before .before .before .before in
+    rw (c .before .join-line .ensures) (simp (length-take, length-drop) (omega arith), join-below (z .args .c) (z .args .i) (z .args .f) (z .pre .0) (z .pre .2) (z .pre .3))
 
 same-length : tie.Need-same-length
 same-length c = search needs

@@ -1,7 +1,8 @@
 -- `writer::put_lines` meets its contract. The loop's invariant: the lines of the facts passed stand over the front of the output.
 -- Assumes nothing.
 use mathlib.Core.Path.{_≡_, refl, sym, _∙_}
-use Prim.Native.Nat.{_+_, _-_, _*_, _≤_}
+use mathlib.Core.List.{List}
+use Prim.Native.Nat.{ℕ, _+_, _-_, _*_, _≤_}
 use native.Mathlib.Omega.{arith}
 use lib.ListN.{length, take, drop, length-take, length-drop}
 use denote.Ref.{now}
@@ -12,6 +13,7 @@ use Rattle.columns.proofs.Lists.{items-length, flat-more}
 use Rattle.columns.proofs.Parts.{part-more}
 use Rattle.table.specs.Tables.{terms, lineOf, tableBytes, rowFact}
 use Rattle.table.proofs.Rows.{bytes-length, row-part}
+use Rattle.table.proofs.Tables.{row-below}
 use Rattle.writer.proofs.put_lines.Statement.{statement}
 use Rattle.writer.proofs.put_lines.Tie as tie
 
@@ -21,6 +23,10 @@ Inv-loop row n out₀ i₀ at₀ from₀ out i at from =
 
 abbrev μ-loop : tie.MeasureT-loop
 μ-loop row n out₀ i₀ at₀ from₀ out i at from = n - i
+
+-- a turn's part of the row has the terms of its fact
+taken : (row : List ℕ) (from i : ℕ) → from ≡ 3 * i → 3 * i + 3 ≤ length row → take (from + 3 - from) (drop from row) ≡ terms (rowFact row i)
+taken row from i e h = let k : from + 3 - from ≡ 3 = omega arith in rw (k, e) (row-part row i h)
 
 loop-holds : tie.Need-loop-holds Inv-loop μ-loop
 unfolding itemsFrom flat
@@ -51,7 +57,11 @@ part-put-line-end-2 : tie.Need-part-put-line-end-2 Inv-loop μ-loop
 part-put-line-end-2 c = omega arith
 
 put-line-requires : tie.Need-put-line-requires Inv-loop μ-loop
-put-line-requires c κs = simp (length-take, length-drop) (omega arith)
+put-line-requires c κs =
+    let s = c .before .before .before .before .before .before in
+    let l = c .before .before .before .loop in
+    let row = now (s .args .row) in
+    (simp (length-take, length-drop) (omega arith), rw (taken row (l .from) (l .i) (l .inv .2) (omega arith)) (row-below row (s .args .n) (l .i) (s .pre .3) (omega arith)))
 
 add-at : tie.Need-add-at Inv-loop μ-loop
 add-at c = omega arith
@@ -72,8 +82,7 @@ loop-again c =
     let row = now (s .args .row) in
     let out = now (s .args .out) in
     let p = c .before .before .put-line in
-    let k : l .from + 3 - l .from ≡ 3 = omega arith in
-    let numbers : take (l .from + 3 - l .from) (drop (l .from) row) ≡ terms (rowFact row (l .i)) = rw (k, l .inv .2) (row-part row (l .i) (omega arith)) in
+    let numbers = taken row (l .from) (l .i) (l .inv .2) (omega arith) in
     let long : length (tableBytes (itemsFrom (rowFact row) 0 (l .i))) ≡ l .at = rw (bytes-length, items-length) (sym (l .inv .1)) in
     let room : l .at + length (lineOf (rowFact row (l .i))) ≤ length out = rw line-length (omega arith) in
     let e = part-more (l .out) (tableBytes (itemsFrom (rowFact row) 0 (l .i))) (lineOf (rowFact row (l .i))) out (p .last .1 .0) (l .at) (l .inv .4) (l .inv .3) long room (p .ensures ∙ rw numbers) in

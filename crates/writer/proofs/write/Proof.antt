@@ -7,6 +7,7 @@ use borrow.Author.Needs.{needs}
 use Rattle.facts.specs.declared.Answer.the-variants.{Done}
 use Rattle.table.specs.Tables.{tableBytes, tableOfRow}
 use Rattle.table.proofs.Rows.{bytes-length, scan-passes, scan-stops, row-size, row-facts, settle-refused, settle-short, settle-done}
+use Rattle.table.proofs.Tables.{tableOfRow-accepted}
 use Rattle.writer.proofs.write.Statement.{statement}
 use Rattle.writer.proofs.write.Tie as tie
 
@@ -37,7 +38,7 @@ put-lines-requires c κs =
     let row = now (c .before .before .before .before .before .before .before .before .args .row) in
     let p = scan-passes (tableOfRow row) (c .before .before .before .n .given .0 .0) (sym (c .before .before .before .before .before .scan-row .ensures) ∙ c .before .before .before .n .given .1) in
     let few = row-size row (p .0) (p .1) in
-    (omega (arith, few .1, p .2), omega (arith, few .0, p .2), omega arith)
+    (omega (arith, few .1, p .2), omega (arith, few .0, p .2), omega arith, rw (← p .2, row-facts row (p .0) (p .1)) (tableOfRow-accepted row (p .0) .0 (p .1) .1 .formed))
 
 returns-2 : tie.Need-returns-2
 returns-2 c =
