@@ -70,7 +70,7 @@ unfolding codeLine reply flat itemsFrom
 outputBy b Torn = codeLine (Refused Form 0)
 outputBy b (Parts size n) = flat (reply b size) (itemsFrom (λ k. k) 0 n)
 
--- all that the program prints
+-- all that the program is to print
 unfoldable pub outputOf : List ℕ → List ℕ
 unfolding outputBy layoutOf
 outputOf b = outputBy b (layoutOf b)

@@ -10,8 +10,8 @@ pub struct Confirmed {
     pub verdict: Answer,
 }
 
-// Puts a question and hands what a yes printed to the check; any other answer is its own verdict. As above, limit is the
-// allowance and output the paper.
+// Puts a question and hands what a yes printed to the check; any other answer is its own verdict. The limit is
+// document 01's allowance and the output its paper.
 pub fn confirm(table: &[u8], fact: Fact, limit: u32, output: &mut [u8]) -> Confirmed
     ensures { λ r. ⌜ Confirms (now (table .entry)) fact limit (now (output .entry)) (now (output .exit)) r ⌝ }
 {

@@ -1,4 +1,5 @@
--- Which of the shortest paths is meant: the one whose last fact stands first in the table, then whose last but one, and so on.
+-- Which of the shortest paths is meant: by domain, and by range only where that is shorter; of those the one whose last fact stands first
+-- in the table, then whose last but one, and so on.
 -- Assumes nothing.
 use mathlib.Core.Path.{_≡_}
 use mathlib.Core.Bool.{Bool, false, cond, _&&_}
