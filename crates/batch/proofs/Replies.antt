@@ -77,6 +77,11 @@ written-behind (Done n) derivation old = refl
 written-behind (Accepted n) derivation old = refl
 written-behind (Refused r place) derivation old = refl
 
+-- the answer of a question that is put with the 63,457 bytes behind the first 16
+pub reply-answer : (table : List ℕ) (q : Query) (out part : List ℕ) (a : Answer) → longest ≤ length out → Answered (question table (q .fact) (q .limit)) (take 63457 (drop 16 out)) part a
+    → a ≡ questionAnswer table (q .fact) (q .limit) (needed 1024)
+reply-answer table q out part a h r = rw (length-take-le 63457 (drop 16 out) (rw length-drop (omega arith))) at (r .answer)
+
 -- the question is put with the part of the output behind the first 16 bytes, and its answer's code is written before it
 pub reply-put : (table : List ℕ) (q : Query) (out part : List ℕ) (a : Answer) → longest ≤ length out → Answered (question table (q .fact) (q .limit)) (take 63457 (drop 16 out)) part a
     → (replySize a ≡ length (replyTo table q)) × (over (codeLine a) (putMid 16 63457 out part) ≡ over (replyTo table q) out)
@@ -85,7 +90,7 @@ reply-put table q out part a h r =
     let t = q .fact in
     let lent = take 63457 (drop 16 out) in
     let n : length lent ≡ 63457 = length-take-le 63457 (drop 16 out) (rw length-drop (omega arith)) in
-    let e : a ≡ questionAnswer table t (q .limit) 63457 = rw n at (r .answer) in
+    let e = reply-answer table q out part a h r in
     let l = behind-length table t (q .limit) 63457 a (sym e) in
     let D = behindCode a (printedFrom (tableOf table) t) in
     let p : part ≡ over D lent = r .output ∙ rw (n, ← e) (written-behind a (printedFrom (tableOf table) t) lent) in (

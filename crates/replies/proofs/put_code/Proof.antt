@@ -1,7 +1,6 @@
 -- `replies::put_code` meets its contract: the line has the code's three numbers.
 -- Assumes nothing.
 use Rattle.batch.specs.Output.{codeLine}
-use native.Mathlib.Omega.{arith}
 use borrow.Author.Needs.{needs}
 use Rattle.replies.proofs.put_code.Statement.{statement}
 use Rattle.replies.proofs.put_code.Tie as tie
@@ -13,7 +12,7 @@ slice-aggregate-put-line : tie.Need-slice-aggregate-put-line
 slice-aggregate-put-line c = search needs
 
 put-line-requires : tie.Need-put-line-requires
-put-line-requires c κs = rw (c .before .before .code-of .ensures) (omega arith, c .before .before .before .before .pre .1)
+put-line-requires c κs = rw (c .before .before .code-of .ensures) (search needs)
 
 same-length : tie.Need-same-length
 same-length c = search needs

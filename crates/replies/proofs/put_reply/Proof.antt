@@ -1,13 +1,9 @@
 -- `replies::put_reply` meets its contract: the question is put with the output behind the first line, which then gets the answer's code.
 -- Assumes nothing.
 use mathlib.Core.Path.{_∙_}
-use Prim.Native.Nat.{_≤_}
-use native.Mathlib.Omega.{arith}
-use lib.ListN.{length, drop, length-drop}
-use lib.Seq.{length-take-le}
 use denote.Ref.{now}
 use Rattle.batch.proofs.Codes.{code-below}
-use Rattle.batch.proofs.Replies.{reply-put}
+use Rattle.batch.proofs.Replies.{reply-answer, reply-put}
 use borrow.Author.Needs.{needs}
 use Rattle.replies.proofs.put_reply.Statement.{statement}
 use Rattle.replies.proofs.put_reply.Tie as tie
@@ -28,8 +24,8 @@ put-code-requires : tie.Need-put-code-requires
 put-code-requires c κs =
     let s = c .before .before .before .before .before .before .before in
     let q = c .before .before .before .question in
-    let room : 63457 ≤ length (drop 16 (now (s .args .out))) = rw length-drop (omega arith) in
-    (search needs, code-below (now (s .args .table)) (s .args .q .fact) (s .args .q .limit) (q .result) (rw (length-take-le 63457 (drop 16 (now (s .args .out))) room) at (q .ensures .0 .answer)))
+    let e = reply-answer (now (s .args .table)) (s .args .q) (now (s .args .out)) _ (q .result) (s .pre) (q .ensures .0) in
+    (search needs, code-below _ (s .args .q .fact) (s .args .q .limit) _ e)
 
 reply-bytes-requires : tie.Need-reply-bytes-requires
 reply-bytes-requires c κs = search needs
