@@ -29,6 +29,10 @@ single row w t j = goal t (rowFact row j) && start w t (rowFact row j)
 abbrev pub into : List ℕ → ℕ → ℕ → Bool
 into row x j = named (rowFact row j .predicate) && eqb (rowFact row j .object) x
 
+-- what is looked for at j: where `leads`, a data fact with the subject of t as its object, and else a path for t by itself
+abbrev pub sought : List ℕ → Bool → ℕ → Fact → ℕ → Bool
+sought row leads w t j = cond leads (into row (t .subject) j) (single row w t j)
+
 module _ (row : List ℕ) (n w : ℕ) (mark : List ℕ) where
   -- the place i is marked m, and b may follow it
   abbrev pub precedes : ℕ → Fact → ℕ → Bool

@@ -12,6 +12,7 @@ use search_parts::part_of;
 use search_parts::wide;
 use table::PLACES;
 use table_lines::row_fact;
+use terms::is_name;
 ghost use mathlib.Core.Path.{_≡_};
 ghost use Prim.Native.Nat.{_+_, _*_, _≤_, _<_};
 ghost use lib.ListN.{length};
@@ -19,7 +20,7 @@ ghost use Rattle.columns.specs.Lines.{over};
 ghost use Rattle.rules.specs.Graph.{least};
 ghost use Rattle.rules.specs.Chosen.{chosenBy};
 ghost use Rattle.question.specs.Row.{factsOf, Rising};
-ghost use Rattle.question.specs.Trace.{placeOr, single, ending, Queued, Stepping, Stepped, FirstEnd, Traceable};
+ghost use Rattle.question.specs.Trace.{placeOr, sought, ending, Queued, Stepping, Stepped, FirstEnd, Traceable};
 ghost use Rattle.question.specs.State.{Early};
 
 // The first place that is marked m and that b may follow, or n: of the queue, the part behind the lower marks is passed.
@@ -57,15 +58,26 @@ fn before(
     Step { at: at, top: 0 }
 }
 
-// The first fact that is a path for t by itself, or n.
-fn first_alone(row: &[u32], n: usize, w: u32, t: Fact) -> usize
+// Where `leads`, the fact at a place is a data fact with the subject of t as its object; else it is a path for t by itself.
+fn is_sought(row: &[u32], leads: bool, w: u32, t: Fact, j: usize) -> bool
+    requires { ⌜ 3 * j + 3 ≤ length (now row) ⌝ }
+    ensures { λ r. ⌜ r ≡ sought (now (row .entry)) leads w t j ⌝ }
+{
+    let b = row_fact(row, j);
+    if leads {
+        return is_name(b.predicate) & (b.object == t.subject);
+    }
+    ends(t, b) & starts(w, t, b)
+}
+
+// The first such place, or n.
+pub fn first_sought(row: &[u32], n: usize, leads: bool, w: u32, t: Fact) -> usize
     requires { ⌜ Rising (now row) n ⌝ }
-    ensures { λ r. ⌜ r ≡ placeOr n (least (single (now (row .entry)) w t) 0 n) ⌝ }
+    ensures { λ r. ⌜ r ≡ placeOr n (least (sought (now (row .entry)) leads w t) 0 n) ⌝ }
 {
     let mut j = 0;
     while j < n {
-        let b = row_fact(row, j);
-        if ends(t, b) & starts(w, t, b) {
+        if is_sought(row, leads, w, t, j) {
             return j;
         }
         j += 1;
@@ -144,7 +156,7 @@ fn path_end(
     ensures { λ r. ⌜ r ≡ placeOr n (least (ending (now (row .entry)) n w (now (mark .entry)) t m) 0 n) ⌝ }
 {
     if m == 0 {
-        return first_alone(row, n, w, t);
+        return first_sought(row, n, false, w, t);
     }
     last(row, n, w, t, m, mark, queue, from, top)
 }

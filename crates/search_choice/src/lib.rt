@@ -6,16 +6,13 @@ use facts::SP;
 use facts::TYPE;
 use question::Found;
 use question::Reached;
+use search_back::first_sought;
 use search_back::trace;
 use search_layers::reach;
-use table_lines::row_fact;
-use terms::is_name;
 ghost use mathlib.Core.Path.{_≡_};
 ghost use Prim.Native.Nat.{_+_, _≤_, _<_};
 ghost use lib.ListN.{length};
-ghost use Rattle.rules.specs.Graph.{least};
 ghost use Rattle.question.specs.Row.{Rising, Sorted};
-ghost use Rattle.question.specs.Trace.{placeOr, into};
 ghost use Rattle.question.specs.Answer.{Given, FindsBy, Finds};
 
 // What one search found, with the places of its path.
@@ -32,22 +29,6 @@ fn answer(row: &[u32], n: usize, w: u32, t: Fact, r: Reached, path: &mut [u16]) 
     Found::Facts(facts)
 }
 
-// The first data fact with the object x, or n.
-fn first_into(row: &[u32], n: usize, x: u32) -> usize
-    requires { ⌜ Rising (now row) n ⌝ }
-    ensures { λ r. ⌜ r ≡ placeOr n (least (into (now (row .entry)) x) 0 n) ⌝ }
-{
-    let mut j = 0;
-    while j < n {
-        let b = row_fact(row, j);
-        if is_name(b.predicate) & (b.object == x) {
-            return j;
-        }
-        j += 1;
-    }
-    n
-}
-
 // For a type two searches: the way by range where it is strictly shorter, and else the way by dom. A way by range that is not
 // also one by dom begins with a data fact whose object is the subject, so without one the search by dom is enough.
 fn by_type(row: &[u32], n: usize, t: Fact, path: &mut [u16]) -> Found
@@ -55,7 +36,7 @@ fn by_type(row: &[u32], n: usize, t: Fact, path: &mut [u16]) -> Found
     ensures { λ r. ⌜ Finds (now (row .entry)) n t (now (path .entry)) (now (path .exit)) r ⌝ }
 {
     let a = reach(row, n, DOM, t);
-    if n <= first_into(row, n, t.subject) {
+    if n <= first_sought(row, n, true, RANGE, t) {
         return answer(row, n, DOM, t, a, path);
     }
     let b = reach(row, n, RANGE, t);

@@ -10,8 +10,8 @@ use Rattle.search_choice.proofs.by_type.Tie as tie
 reach-requires : tie.Need-reach-requires
 reach-requires c κs = search needs
 
-first-into-requires : tie.Need-first-into-requires
-first-into-requires c κs = search needs
+first-sought-requires : tie.Need-first-sought-requires
+first-sought-requires c κs = search needs
 
 answer-requires : tie.Need-answer-requires
 answer-requires c κs = search needs
@@ -22,7 +22,9 @@ same-length c = search needs
 returns : tie.Need-returns
 returns c =
     let r = c .before .before .before .before .before .before .reach .result in
-    answers-alone _ _ _ (r .facts) (r .state) _ _ _ (c .before .before .before .before .before .before .before .before .before .pre .2) (rw (← c .before .before .before .before .before .first-into .ensures) (c .before .before .before .before .if1 .taken)) (c .before .before .before .before .before .before .reach .ensures) (c .before .before .answer .ensures)
+    answers-alone _ _ _ (r .facts) (r .state) _ _ _ (c .before .before .before .before .before .before .before .before .before .pre .2)
+    (rw (← c .before .before .before .before .before .first-sought .ensures) (c .before .before .before .before .if1 .taken))
+    (c .before .before .before .before .before .before .reach .ensures) (c .before .before .answer .ensures)
 
 reach-requires-2 : tie.Need-reach-requires-2
 reach-requires-2 c κs = search needs
@@ -68,7 +70,7 @@ by-type-spec =
     tie.close
     (tie.spec
     reach-requires
-    first-into-requires
+    first-sought-requires
     answer-requires
     same-length
     returns
