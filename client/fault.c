@@ -45,20 +45,32 @@ static size_t wrong_column(const line *r) {
     return COLUMNS + 1;
 }
 
-/* A byte that no table has: NULL if the line has none. */
-static const char *byte_cause(const line *r) {
-    const char *comment = memchr(r->text, '#', r->len), *cr = memchr(r->text, '\r', r->len);
+/* What a byte is that is neither a digit nor a space. */
+static const char *byte_words(const line *r, size_t at) {
+    switch (r->text[at]) {
+    case '#': return trimmed(r->text, r->len) == 0 ? "a comment: a table has facts only" : "a comment behind the fact";
+    case '\r': return r->ended && at == r->len - 1 ? "a carriage return before the line end (Windows line ends)"
+                                                   : "a carriage return: a line ends with a line feed";
+    case '\t': return "a tab: fields are padded with spaces";
+    case ',':
+    case ';': return "a comma or semicolon: fields are padded with spaces";
+    default: return "text that is no number";
+    }
+}
+
+/* A byte that no table has, and its column: NULL if the line has none. */
+static const char *byte_cause(const line *r, size_t *column) {
+    const char *nul = memchr(r->text, '\0', r->len);
+    size_t at = nul ? (size_t)(nul - r->text) : 0;
+    if (!nul) while (at < r->len && (is_digit(r->text[at]) || r->text[at] == ' ')) at++;
+    if (at == r->len) return NULL;
+    *column = at + 1;
     if (r->number == 1 && mark_length(r->text, r->len)) return "a byte order mark before the first number";
-    if (r->number == 1 && r->len >= 2 && (!memcmp(r->text, "\xff\xfe", 2) || !memcmp(r->text, "\xfe\xff", 2)))
+    if (r->number == 1 && r->len >= 2 && (!memcmp(r->text, "\xff\xfe", 2) || !memcmp(r->text, "\xfe\xff", 2))) {
+        *column = 1;
         return "the file is UTF-16 text: a table is plain ASCII";
-    if (memchr(r->text, '\0', r->len)) return "a NUL byte (byte 0): the file is no plain text";
-    if (comment) return trimmed(r->text, r->len) == 0 ? "a comment: a table has facts only" : "a comment behind the fact";
-    if (cr) return r->ended && cr == r->text + r->len - 1 ? "a carriage return before the line end (Windows line ends)"
-                                                          : "a carriage return: a line ends with a line feed";
-    if (memchr(r->text, '\t', r->len)) return "a tab: fields are padded with spaces";
-    for (size_t i = 0; i < r->len; i++)
-        if (!is_digit(r->text[i]) && r->text[i] != ' ') return "text that is no number";
-    return NULL;
+    }
+    return nul ? "a NUL byte (byte 0): the file is no plain text" : byte_words(r, at);
 }
 
 /* A field that is not as laid out, in a line of digits and spaces that has its 16 bytes. */
@@ -77,8 +89,8 @@ unsigned fact_refusal(const uint32_t *fact) {
     return factbox_number(factbox_write(fact, 3, written, sizeof written));
 }
 
-/* Why a line of digits and spaces has not its 16 bytes. */
-static const char *length_cause(const line *r) {
+/* Why a line of digits and spaces has not its 16 bytes. Where its numbers are the cause there is no column. */
+static const char *length_cause(const line *r, size_t *column) {
     static char text[320];
     uint32_t fact[3];
     size_t len = trimmed(r->text, r->len);
@@ -86,8 +98,9 @@ static const char *length_cause(const line *r) {
     int laid_out = len == COLUMNS && wrong_column(&(line){r->text, len, r->number, 1}) > COLUMNS;
     if (laid_out && len < r->len) return "spaces at the end of the line";
     if (laid_out) return "the last line has no line end";
-    if (!why && fact_refusal(fact)) return fact_fault(fact_refusal(fact), fact);
-    if (!why) return "the numbers are not padded to five columns each";
+    if (!why && !fact_refusal(fact)) return "the numbers are not padded to five columns each";
+    if (r->ended || !why) *column = 0;
+    if (!why) return fact_fault(fact_refusal(fact), fact);
     snprintf(text, sizeof text, "%s%s", why, r->ended ? "" : "; the file ends within the line");
     return text;
 }
@@ -96,6 +109,7 @@ static const char *length_cause(const line *r) {
 static int can_be_mended(const line *r) {
     uint32_t fact[3];
     size_t mark = r->number == 1 ? mark_length(r->text, r->len) : 0, len = trimmed(r->text + mark, r->len - mark);
+    if (r->len > TEXT_MAX && !memchr(r->text, '#', TEXT_MAX)) return 0;
     return len == 0 || (!line_fields(r->text + mark, len, 3, fact) && !fact_refusal(fact));
 }
 
@@ -109,15 +123,16 @@ static void line_fact(const line *r, uint32_t *fact) {
 /* Refusals 1 and 2: where the line's layout breaks, and why. */
 static void explain_layout(FILE *out, const char *name, const line *r) {
     size_t column = wrong_column(r);
-    const char *why = byte_cause(r);
+    const char *why = byte_cause(r, &column);
     int blank = trimmed(r->text, r->len) == 0;
     if (r->number > FACTBOX_FACTS_MAX && !blank) {
         fprintf(out, "  a table has at most 1,024 lines\n");
         return;
     }
     if (!why && blank) why = "a blank line";
-    if (!why) why = r->len == COLUMNS && r->ended ? field_cause(r, column) : length_cause(r);
-    fprintf(out, "  column %zu: %s\n", column, why);
+    if (!why) why = r->len == COLUMNS && r->ended ? field_cause(r, column) : length_cause(r, &column);
+    if (column > 0) fprintf(out, "  column %zu: %s\n", column, why);
+    else fprintf(out, "  %s\n", why);
     if (can_be_mended(r)) fprintf(out, "  `table` takes such lines: table -o NEW %s\n", name);
 }
 

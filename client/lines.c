@@ -37,7 +37,7 @@ static int read_line(lines *in) {
     in->len = 0;
     while ((c = getc(in->file)) != EOF && c != '\n') {
         if (in->len < TEXT_MAX) in->text[in->len] = (char)c;
-        in->len++;
+        if (++in->len > ENDLESS) fail("a line has no end", in->name);
     }
     if (ferror(in->file)) fail("can't be read", in->name);
     in->line++;

@@ -11,7 +11,7 @@
 #include <stdint.h>
 #include <stdio.h>
 
-enum { TEXT_MAX = 1000, FIELD_COLUMNS = 5 };
+enum { TEXT_MAX = 1000, FIELD_COLUMNS = 5, ENDLESS = 1 << 20 };
 
 /* A file, and the line of it that was read last. */
 typedef struct {

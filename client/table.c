@@ -8,7 +8,7 @@
  * Standard error has how many facts it is, or, with file and line, each line that can't be taken.
  *
  * Exit status: 0 done; 1 a line or the table was refused, and nothing is written or opened for writing; 2 bad usage, a file
- * that can't be read, or a failed write. */
+ * that can't be read, or a failed write, after which a file named with -o is as it was. */
 #include "factbox.h"
 #include "fault.h"
 #include "lines.h"
@@ -17,6 +17,7 @@
 #include <errno.h>
 #include <stdlib.h>
 #include <string.h>
+#include <sys/stat.h>
 #include <unistd.h>
 
 const char PROGRAM[] = "table";
@@ -125,13 +126,35 @@ static size_t in_words(const char *name) {
     return len;
 }
 
-/* Writes the result out. If that fails, what was written is no table. */
+/* Writes the result to a file that is open; 0 if that fails. */
+static int written(FILE *out, size_t len) {
+    int whole = fwrite(result, 1, len, out) == len;
+    return fclose(out) == 0 && whole;
+}
+
+/* Puts the result in the place of a file as a whole. If a write fails the old one stays: the first lines of a table may be a
+ * sound table too. */
+static void replace(const char *name, size_t len) {
+    char beside[4096];
+    if ((size_t)snprintf(beside, sizeof beside, "%s.new", name) >= sizeof beside) fail("the name is too long", name);
+    FILE *out = fopen(beside, "wb");
+    if (!out) fail(strerror(errno), name);
+    if (written(out, len) && rename(beside, name) == 0) return;
+    remove(beside);
+    fail("can't be written", name);
+}
+
+/* Writes the result out: to standard output, a file, or what else there is of that name, as a device. */
 static void put_out(const char *name, size_t len) {
+    struct stat there;
+    if (name && (stat(name, &there) != 0 || S_ISREG(there.st_mode))) {
+        replace(name, len);
+        return;
+    }
     FILE *out = name ? fopen(name, "wb") : stdout;
     if (!name) name = "standard output";
     if (!out) fail(strerror(errno), name);
-    int short_write = fwrite(result, 1, len, out) != len;
-    if (fclose(out) || short_write) fail("can't be written", name);
+    if (!written(out, len)) fail("can't be written", name);
 }
 
 int main(int argc, char **argv) {

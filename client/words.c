@@ -81,6 +81,7 @@ const char *quoted(const char *text, size_t len) {
         unsigned char c = (unsigned char)text[i];
         if (c == '\t') at += sprintf(at, "\\t");
         else if (c == '\r') at += sprintf(at, "\\r");
+        else if (c == '\\' || c == '"') at += sprintf(at, "\\%c", c);
         else if (c < ' ' || c > '~') at += sprintf(at, "\\x%02x", c);
         else *at++ = (char)c;
     }
