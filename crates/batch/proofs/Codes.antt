@@ -20,7 +20,8 @@ use Rattle.facts.specs.declared.Verdict.{Verdict}
 use Rattle.facts.specs.declared.Verdict.the-variants.{Sound, Faulty}
 use Rattle.facts.specs.declared.Answer.{Answer}
 use Rattle.facts.specs.declared.Answer.the-variants.{Refused}
-use Rattle.facts.specs.Facts.{hasNoTerm, hasBlank, misplaced, faultOf, orElse}
+use Rattle.facts.specs.Facts.{hasNoTerm, misplaced, orElse}
+use Rattle.facts.specs.Gaps.{overBlank, questionFault}
 use Rattle.facts.specs.Answers.{codeOf, numberOf}
 use Rattle.facts.proofs.Terms.{by-cases}
 use Rattle.table.specs.Scans.{earns}
@@ -28,8 +29,8 @@ use Rattle.table.specs.Tables.{Table, accepted, refused, lineFact, lineVerdict,
 use Rattle.table.proofs.Rows.{accepted-size}
 use Rattle.table.proofs.Tables.{Stopped, tableOf-refused, line-refused, table-place}
 use Rattle.rules.specs.Paths.{fewest}
-use Rattle.question.specs.Question.{needed, questionFault, asked, answerBy, answerOf, unless, answerFrom, questionAnswer, printedFrom}
-use Rattle.question.proofs.Answered.{fewest-meant}
+use Rattle.rules.proofs.Chosen.{fewest-few}
+use Rattle.question.specs.Question.{needed, asked, fillingFor, answerBy, answerOf, unless, answerFrom, questionAnswer, printedFrom}
 use Rattle.batch.specs.declared.Query.{Query}
 use Rattle.batch.specs.Output.{codeNumbers, codeLine, behindCode, replyTo}
 
@@ -65,12 +66,12 @@ table-number b r place e =
     let s = p .1 in earned _ (lineFact b) (s .line) r (line-refused b (s .line) r .0 (s .refuses) .here))
     (tableOf-refused b r place .0 e)
 
--- the fact's own refusals are 3, 4 and 5
-fault-number : (t : Fact) (r : Refusal) → faultOf t ≡ Faulty r → numberOf r ≤ 5
-unfolding faultOf
+-- the triple's own refusals are 3, 4 and 5
+fault-number : (t : Fact) (r : Refusal) → questionFault t ≡ Faulty r → numberOf r ≤ 5
+unfolding questionFault
 fault-number t r e =
     by-cases (hasNoTerm t) (λ a. said Term (rw a at e) (omega arith))
-    (λ a. by-cases (hasBlank t) (λ b. said Blank (rw (a, b) at e) (omega arith))
+    (λ a. by-cases (overBlank t) (λ b. said Blank (rw (a, b) at e) (omega arith))
     (λ b. by-cases (misplaced t) (λ c. said Part (rw (a, b, c) at e) (omega arith))
     (λ c. let x : Sound ≡ Faulty r = rw (a, b, c) at e in let z : _≡_ {A = ℕ} 0 1 = cc in absurd (omega arith))))
   where
@@ -79,10 +80,10 @@ fault-number t r e =
 
 -- with memory for every limit the question itself adds 7, and never 8
 asked-number : (t : Fact) (limit : ℕ) (r : Refusal) → asked t limit (needed 1024) ≡ Faulty r → (numberOf r ≤ 7)
-unfolding asked orElse questionFault
-asked-number t limit r e = go (faultOf t) refl
+unfolding asked orElse
+asked-number t limit r e = go (questionFault t) refl
   where
-    go : (v : Verdict) → faultOf t ≡ v → numberOf r ≤ 7
+    go : (v : Verdict) → questionFault t ≡ v → numberOf r ≤ 7
     go (Faulty q) p = let x : Faulty q ≡ Faulty r = rw p at e in omega (arith, fault-number t r (p ∙ x))
     go Sound p =
         by-cases (leb limit 1024)
@@ -95,10 +96,10 @@ refused-plain r place n p = record { number = omega arith; place = p; count = om
 
 -- ---- answers
 
-found-plain : (limit : ℕ) (o : Option ℕ) → ((f : ℕ) → o ≡ some f → f ≤ 1024) → Plain (codeOf (answerBy limit o))
+found-plain : (limit : ℕ) (o : Option ℕ) (x : ℕ) → ((f : ℕ) → o ≡ some f → f ≤ 1024) → Plain (codeOf (answerBy limit o x))
 unfolding answerBy
-found-plain limit none few = record { number = omega arith; place = omega arith; count = omega arith; not-short = λ e. omega arith }
-found-plain limit (some f) few =
+found-plain limit none x few = record { number = omega arith; place = omega arith; count = omega arith; not-short = λ e. omega arith }
+found-plain limit (some f) x few =
     by-cases (leb f limit)
     (λ y. rw y (record { number = omega arith; place = omega arith; count = few f refl; not-short = λ e. omega arith }))
     (λ y. rw y (record { number = omega arith; place = omega arith; count = few f refl; not-short = λ e. omega arith }))
@@ -107,10 +108,10 @@ answer-plain : (table : List ℕ) (t : Fact) (limit : ℕ) → Plain (codeOf (qu
 unfolding questionAnswer answerFrom answerOf
 answer-plain table t limit = go (tableOf table) refl
   where
-    judged : (facts : List Fact) → tableOf table ≡ accepted facts → (v : Verdict) → asked t limit (needed 1024) ≡ v → Plain (codeOf (unless v (answerBy limit (fewest facts t))))
+    judged : (facts : List Fact) → tableOf table ≡ accepted facts → (v : Verdict) → asked t limit (needed 1024) ≡ v → Plain (codeOf (unless v (answerBy limit (fewest facts t) (fillingFor facts t))))
     judged facts is (Faulty r) e = unfold unless in refused-plain r 0 (asked-number t limit r e) (omega arith)
     judged facts is Sound e =
-        unfold unless in found-plain limit (fewest facts t) (λ f k. omega (arith, fewest-meant table t facts is f k .1, accepted-size table facts is .1))
+        unfold unless in found-plain limit (fewest facts t) (fillingFor facts t) (λ f k. omega (arith, fewest-few facts t f k, accepted-size table facts is .1))
 
     go : (T : Table) → tableOf table ≡ T → Plain (codeOf (questionAnswer table t limit (needed 1024)))
     go (refused r place) is = rw is (refused-plain r place (omega (arith, table-number table r place is)) (table-place table r place is))

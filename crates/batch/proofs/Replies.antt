@@ -16,7 +16,8 @@ use Rattle.facts.specs.declared.Answer.the-variants.{Done, Yes, No, Long, Accep
 use Rattle.table.specs.Tables.{Table, accepted, refused, tableOf}
 use Rattle.table.proofs.Rows.{accepted-size}
 use Rattle.question.specs.Question.{needed, answerFrom, questionAnswer, printedFrom, written, outputAfter, question, Answered}
-use Rattle.question.proofs.Answered.{yes-fewest, fewest-meant, prints-length}
+use Rattle.rules.proofs.Chosen.{fewest-few}
+use Rattle.question.proofs.Answered.{yes-fewest, prints-length}
 use Rattle.batch.specs.declared.Query.{Query}
 use Rattle.batch.specs.Input.{questionsBehind}
 use Rattle.batch.specs.Output.{codeLine, behindCode, replySize, replyTo, reply, longest, replyIn}
@@ -36,16 +37,16 @@ over-part L D l h m e d r =
 -- ---- lengths
 
 -- a yes is printed with 2 f - 1 lines, and f is at most 1,024
-yes-printed : (table : List ℕ) (t : Fact) (limit size f : ℕ) → questionAnswer table t limit size ≡ Yes f → (length (printedFrom (tableOf table) t) ≡ needed f) × (f ≤ 1024)
+yes-printed : (table : List ℕ) (t : Fact) (limit size f x : ℕ) → questionAnswer table t limit size ≡ Yes f x → (length (printedFrom (tableOf table) t) ≡ needed f) × (f ≤ 1024)
 unfolding questionAnswer answerFrom printedFrom
-yes-printed table t limit size f e = go (tableOf table) refl
+yes-printed table t limit size f x e = go (tableOf table) refl
   where
     go : (T : Table) → tableOf table ≡ T → (length (printedFrom (tableOf table) t) ≡ needed f) × (f ≤ 1024)
     go (accepted facts) is =
-        let k = yes-fewest table t facts is limit size f e .0 in
+        let k = yes-fewest table t facts is limit size f x e in
         let few = accepted-size table facts is in
-        (rw is (prints-length table t facts is f k .0), omega (arith, fewest-meant table t facts is f k .1, few))
-    go (refused r place) is = let z : Refused r place ≡ Yes f = rw is at e in let o : _≡_ {A = ℕ} 0 1 = cc in absurd (omega arith)
+        (rw is (prints-length table t facts is (k .3) f (k .0) .0), omega (arith, fewest-few facts t f (k .0), few))
+    go (refused r place) is = let z : Refused r place ≡ Yes f x = rw is at e in let o : _≡_ {A = ℕ} 0 1 = cc in absurd (omega arith)
 
 code-length : (a : Answer) → length (codeLine a) ≡ 16
 unfolding codeLine
@@ -58,7 +59,7 @@ module _ (table : List ℕ) (t : Fact) (limit size : ℕ) where
 
   behind-length : (a : Answer) → questionAnswer table t limit size ≡ a → (16 + length (Behind a) ≡ replySize a) × (replySize a ≤ longest)
   unfolding behindCode
-  behind-length (Yes f) e = let p = yes-printed table t limit size f e in (omega (arith, p .0), omega (arith, p .1))
+  behind-length (Yes f x) e = let p = yes-printed table t limit size f x e in (omega (arith, p .0), omega (arith, p .1))
   behind-length No e = (refl, omega arith)
   behind-length (Long f) e = (refl, omega arith)
   behind-length (Done n) e = (refl, omega arith)
@@ -70,7 +71,7 @@ module _ (table : List ℕ) (t : Fact) (limit size : ℕ) where
 -- what a question writes is what stands behind the code
 written-behind : (a : Answer) (derivation old : List ℕ) → written a derivation old ≡ over (behindCode a derivation) old
 unfolding written behindCode
-written-behind (Yes f) derivation old = refl
+written-behind (Yes f x) derivation old = refl
 written-behind No derivation old = refl
 written-behind (Long f) derivation old = refl
 written-behind (Done n) derivation old = refl

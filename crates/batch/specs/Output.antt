@@ -17,7 +17,7 @@ use Rattle.batch.specs.declared.Input.the-variants.{Torn, Parts}
 use Rattle.batch.specs.declared.Query.{Query}
 use Rattle.batch.specs.Input.{questionsBehind, layoutOf, questionAt}
 
--- an answer's number, place and count
+-- an answer's number, place and count; the term that a yes names isn't printed, the derivation's last line has it
 abbrev pub codeNumbers : Answer → List ℕ
 codeNumbers a = codeOf a .number ∷ codeOf a .place ∷ codeOf a .count ∷ []
 
@@ -27,7 +27,7 @@ codeLine a = line (codeNumbers a)
 
 -- what follows it: the derivation behind a yes, and else nothing
 unfoldable pub behindCode : Answer → List ℕ → List ℕ
-behindCode (Yes f) derivation = derivation
+behindCode (Yes f x) derivation = derivation
 behindCode No derivation = []
 behindCode (Long f) derivation = []
 behindCode (Done n) derivation = []
@@ -36,7 +36,7 @@ behindCode (Refused r place) derivation = []
 
 -- the bytes of the reply with an answer: a line, and 2 f - 1 lines of derivation behind a yes
 abbrev pub replySize : Answer → ℕ
-replySize (Yes f) = 16 + needed f
+replySize (Yes f x) = 16 + needed f
 replySize No = 16
 replySize (Long f) = 16
 replySize (Done n) = 16

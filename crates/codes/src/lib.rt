@@ -1,9 +1,9 @@
-// An answer's number, place and count (document 01's table of numbers).
+// An answer's number, place and count (document 01's table of numbers), and the term that it names for a gap.
 use facts::Answer;
 use facts::Code;
 use facts::Refusal;
 ghost use mathlib.Core.Path.{_≡_};
-ghost use Rattle.facts.specs.Answers.{codeOf, numberOf, numbered};
+ghost use Rattle.facts.specs.Answers.{codeOf, numberOf, numbered, yesNaming};
 
 // Document 01's number for a refusal.
 fn refusal_number(r: Refusal) -> u32
@@ -24,7 +24,7 @@ fn refusal_number(r: Refusal) -> u32
     }
 }
 
-// A code by its three numbers.
+// A code by its three numbers, which names no term.
 fn numbers(number: u32, place: u32, count: u32) -> Code
     ensures { λ r. ⌜ r ≡ numbered number place count ⌝ }
 {
@@ -32,16 +32,29 @@ fn numbers(number: u32, place: u32, count: u32) -> Code
         number: number,
         place: place,
         count: count,
+        filling: 0,
     }
 }
 
-// Document 01's number, place and count for an answer.
+// Yes with a count, and the term that it names.
+fn yes_naming(count: u32, filling: u32) -> Code
+    ensures { λ r. ⌜ r ≡ yesNaming count filling ⌝ }
+{
+    Code {
+        number: 90,
+        place: 0,
+        count: count,
+        filling: filling,
+    }
+}
+
+// Document 01's number, place and count for an answer, and the term that a yes names.
 pub fn code_of(a: Answer) -> Code
     ensures { λ r. ⌜ r ≡ codeOf a ⌝ }
 {
     match a {
         Answer::Done(n) => numbers(0, 0, n),
-        Answer::Yes(n) => numbers(90, 0, n),
+        Answer::Yes(n, x) => yes_naming(n, x),
         Answer::No => numbers(91, 0, 0),
         Answer::Long(n) => numbers(92, 0, n),
         Answer::Accepted(n) => numbers(93, 0, n),

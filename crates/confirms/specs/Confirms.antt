@@ -1,4 +1,4 @@
--- A question whose printed derivation is handed to the check.
+-- A question whose printed derivation is handed to the check, for the triple with its gap filled.
 -- Assumes nothing.
 use mathlib.Core.Path.{_≡_}
 use mathlib.Core.List.{List}
@@ -11,7 +11,7 @@ use Rattle.confirms.specs.declared.Confirmed.{Confirmed}
 
 -- the check accepts what a yes printed, with the same count; any other answer stands as it is
 unfoldable pub confirmed : Answer → Answer
-confirmed (Yes f) = Accepted f
+confirmed (Yes f x) = Accepted f
 confirmed No = No
 confirmed (Long f) = Long f
 confirmed (Done n) = Done n

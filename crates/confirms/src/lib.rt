@@ -10,20 +10,20 @@ pub struct Confirmed {
     pub verdict: Answer,
 }
 
-// Puts a question and hands what a yes printed to the check; any other answer is its own verdict. The limit is
-// document 01's allowance and the output its paper.
+// Puts a question and hands what a yes printed to the check, for the fact with its gap filled; any other answer is its own
+// verdict. The limit is document 01's allowance and the output its paper.
 pub fn confirm(table: &[u8], fact: Fact, limit: u32, output: &mut [u8]) -> Confirmed
     ensures { λ r. ⌜ Confirms (now (table .entry)) fact limit (now (output .entry)) (now (output .exit)) r ⌝ }
 {
     let a = search::question(table, fact, limit, output);
-    let Answer::Yes(f) = a else {
+    let Answer::Yes(f, x) = a else {
         return Confirmed {
             answer: a,
             verdict: a,
         };
     };
     let used = search::needed_for(f);
-    let v = checker::check(table, fact, &output[..used]);
+    let v = checker::check(table, gaps::filled_by(fact, x), &output[..used]);
     Confirmed {
         answer: a,
         verdict: v,

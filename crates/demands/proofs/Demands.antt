@@ -14,9 +14,10 @@ use Rattle.columns.specs.Lines.{over}
 use Rattle.facts.specs.declared.Fact.{Fact}
 use Rattle.facts.specs.declared.Refusal.{Refusal}
 use Rattle.facts.specs.declared.Answer.{Answer}
-use Rattle.facts.specs.declared.Answer.the-variants.{No, Long, Refused}
+use Rattle.facts.specs.declared.Answer.the-variants.{Done, Yes, No, Long, Accepted, Refused}
 use Rattle.facts.specs.declared.Code.{Code}
 use Rattle.facts.specs.Facts.{wellFormed}
+use Rattle.facts.specs.Gaps.{Fills}
 use Rattle.facts.specs.Answers.{codeOf, YesWith, LongWith, SaysFollows, SaysNo, AcceptedWith, DoneWith, RefusedWith}
 use Rattle.facts.proofs.Terms.{by-cases}
 use Rattle.facts.proofs.Codes.{told-yes, told-long, told-no, told-refused}
@@ -26,13 +27,15 @@ use Rattle.records.specs.Records.{overRecords, settledRecords, filledRecords, T
 use Rattle.rules.specs.declared.Line.{Line}
 use Rattle.rules.specs.Graph.{_∈_}
 use Rattle.rules.specs.Rules.{Rule}
-use Rattle.rules.specs.Derivations.{Derives, Derivable, tableLines, Refuted}
+use Rattle.rules.specs.Derivations.{Derives, tableLines}
+use Rattle.rules.specs.Fillings.{DerivableFilling, RefutedFillings}
 use Rattle.rules.specs.Paths.{fewest}
 use Rattle.rules.proofs.Paths.{no-fewer}
 use Rattle.rules.proofs.Fewest.{fewest-least, fewest-none, fewest-refuted, least-part, path-derives}
 use Rattle.acceptance.specs.Check.{DerivationOf}
-use Rattle.question.specs.Question.{printedFor, answerBy, answerOf, questionAnswer, written, outputAfter, Question, question, Meaning}
-use Rattle.question.proofs.Answered.{accepted-formed, yes-fewest, long-fewest, no-fewest, same-count}
+use Rattle.question.specs.Question.{printedFor, fillingFor, answerBy, answerOf, questionAnswer, written, outputAfter, Question, question, Meaning}
+use Rattle.question.proofs.Answered.{accepted-formed, yes-input, yes-fewest, long-fewest, no-fewest, gapless-filling, same-count}
+use Rattle.question.proofs.ByRules.{answers-by}
 use Rattle.entail.specs.Packed.{unpacked}
 use Rattle.entail.specs.Calls.{CheckCall, ReadCall, WriteCall}
 use Rattle.entail.proofs.Unpacked.{question-unpacked, check-unpacked, read-unpacked, write-unpacked, call-means, call-judges}
@@ -41,7 +44,7 @@ use Rattle.confirms.proofs.Confirms.{prints-derivation}
 use Rattle.demands.specs.Refusals.{SoundTable, SoundRow}
 use Rattle.demands.specs.Demands.{Put, said, SoundPut, Within, Demand-1, Demand-2, Demand-3}
 use Rattle.demands.proofs.Refusals.{sound-table, sound-row, read-refused, facts-refused, write-refused, question-refused, check-refused, memory-unchanged, records-unchanged}
-use Rattle.demands.proofs.Sound.{sound-is, sound-answer, table-sound, row-sound, fact-sound, question-sound, check-sound}
+use Rattle.demands.proofs.Sound.{sound-is, sound-answer, table-sound, row-sound, fact-sound, asked-sound, question-sound, check-sound, check-names, settled-names, records-names}
 use Rattle.demands.proofs.Program.{torn, torn-piece, laid-line, program-replies}
 
 -- ---- demand 1
@@ -101,9 +104,9 @@ module _ (p : Put) (facts : List Fact) (s : SoundPut p facts) where
   formed = accepted-formed (p .question .table) t facts is
 
   -- the answer is no, or yes or long with the fewest
-  by-fewest : (o : Option ℕ) → fewest facts t ≡ o → said p ≡ codeOf (answerBy limit o)
+  by-fewest : (o : Option ℕ) → fewest facts t ≡ o → said p ≡ codeOf (answerBy limit o (fillingFor facts t))
   by-fewest o e =
-      let a : answer p ≡ answerBy limit o = sound-answer (p .question) facts lent s ∙ unfold answerOf in (rw e) in
+      let a : answer p ≡ answerBy limit o (fillingFor facts t) = sound-answer (p .question) facts lent s ∙ unfold answerOf in (ap (λ (y : Option ℕ). answerBy limit y (fillingFor facts t)) e) in
       said-is p ∙ ap codeOf a
 
   found : ((f : ℕ) × (fewest facts t ≡ some f) × SaysFollows (said p) f) ⊎ ((fewest facts t ≡ none) × SaysNo (said p))
@@ -113,49 +116,49 @@ module _ (p : Put) (facts : List Fact) (s : SoundPut p facts) where
       go none e = inr (e, by-fewest none e ∙ unfold answerBy in refl)
       go (some f) e =
           by-cases (leb f limit)
-          (λ y. inl (f, e, inl (by-fewest (some f) e ∙ unfold answerBy in (rw y))))
+          (λ y. inl (f, e, inl (fillingFor facts t, by-fewest (some f) e ∙ unfold answerBy in (rw y))))
           (λ y. inl (f, e, inr (by-fewest (some f) e ∙ unfold answerBy in (rw y))))
 
   -- yes or long carries the fewest
   follows-fewest : (f : ℕ) → SaysFollows (said p) f → fewest facts t ≡ some f
   follows-fewest f =
-      ⊎-elim (λ (y : YesWith (said p) f). yes-fewest (p .question .table) t facts is limit lent f (told-yes (sym (said-is p) ∙ y)) .0)
+      ⊎-elim (λ (y : (x : ℕ) × YesWith (said p) f x). yes-fewest (p .question .table) t facts is limit lent f (y .0) (told-yes (sym (said-is p) ∙ y .1)) .0)
       (λ (y : LongWith (said p) f). long-fewest (p .question .table) t facts is limit lent f (told-long (sym (said-is p) ∙ y)) .0)
 
   no-none : SaysNo (said p) → fewest facts t ≡ none
-  no-none e = no-fewest (p .question .table) t facts is limit lent (told-no (sym (said-is p) ∙ e))
+  no-none e = no-fewest (p .question .table) t facts is limit lent (told-no (sym (said-is p) ∙ e)) .0
 
   answered : ((f : ℕ) × SaysFollows (said p) f) ⊎ SaysNo (said p)
   answered =
       ⊎-elim (λ (h : (f : ℕ) × (fewest facts t ≡ some f) × SaysFollows (said p) f). inl (h .0, h .2))
       (λ (h : (fewest facts t ≡ none) × SaysNo (said p)). inr (h .1)) found
 
-  follows-derivable : ((f : ℕ) × SaysFollows (said p) f) ↔ Derivable Rule facts t
+  follows-derivable : ((f : ℕ) × SaysFollows (said p) f) ↔ DerivableFilling Rule facts t
   follows-derivable = (
-    λ h. let l = fewest-least facts formed t (h .0) .0 (follows-fewest (h .0) (h .1)) in (l .derivation, l .derives),
+    λ h. let l = fewest-least facts formed t (s .fact) (h .0) .0 (follows-fewest (h .0) (h .1)) in (l .0, l .1 .fills, (l .1 .least .derivation, l .1 .least .derives)),
     λ d. ⊎-elim (λ (h : (f : ℕ) × (fewest facts t ≡ some f) × SaysFollows (said p) f). (h .0, h .2))
-        (λ (h : (fewest facts t ≡ none) × SaysNo (said p)). absurd (fewest-none facts formed t .0 (h .0) d)) found,
+        (λ (h : (fewest facts t ≡ none) × SaysNo (said p)). absurd (fewest-none facts formed t (s .fact) .0 (h .0) d)) found,
   )
 
-  no-refuted : SaysNo (said p) ↔ Refuted Rule facts t
+  no-refuted : SaysNo (said p) ↔ RefutedFillings Rule facts t
   no-refuted = (
-    λ e. fewest-refuted facts formed t .0 (no-none e),
+    λ e. fewest-refuted facts formed t (s .fact) .0 (no-none e),
     λ r. ⊎-elim
         (λ (h : (f : ℕ) × (fewest facts t ≡ some f) × SaysFollows (said p) f).
-        let z : none ≡ some (h .0) = sym (fewest-refuted facts formed t .1 r) ∙ h .1 in let k : _≡_ {A = ℕ} 0 1 = cc in absurd (omega arith))
+        let z : none ≡ some (h .0) = sym (fewest-refuted facts formed t (s .fact) .1 r) ∙ h .1 in let k : _≡_ {A = ℕ} 0 1 = cc in absurd (omega arith))
         (λ (h : (fewest facts t ≡ none) × SaysNo (said p)). h .1) found,
   )
 
   -- ---- the count, and what is printed
 
-  fewer-none : (f : ℕ) → SaysFollows (said p) f → (part : List Fact) → Within part facts → (d : List Line) → Derives Rule part d t → f ≤ tableLines d
-  fewer-none f h = least-part facts formed t f (means .least f h .0)
+  fewer-none : (f : ℕ) → SaysFollows (said p) f → (part : List Fact) → Within part facts → (u : Fact) → Fills t u → (d : List Line) → Derives Rule part d u → f ≤ tableLines d
+  fewer-none f h part in-facts = let l = means .least f h .0 in least-part facts formed t (s .fact) f (l .0) (l .1) part in-facts
 
-  derives-none : SaysNo (said p) → (part : List Fact) → Within part facts → (d : List Line) → Derives Rule part d t → ⊥
-  derives-none e part in-facts d h =
+  derives-none : SaysNo (said p) → (part : List Fact) → Within part facts → (u : Fact) → Fills t u → (d : List Line) → Derives Rule part d u → ⊥
+  derives-none e part in-facts u f d h =
       let w = no-fewer {table = facts} in-facts h in
-      let made = path-derives facts formed t (w .0) in
-      fewest-none facts formed t .0 (no-none e) (made .0, made .1)
+      let made = path-derives facts formed u (w .0) in
+      fewest-none facts formed t (s .fact) .0 (no-none e) (u, f, (made .0, made .1))
 
 -- what the check accepts over a sound table, for a well-formed fact
 judges : {b : List ℕ} {t : Fact} {x : List ℕ} {n : ℕ} → CheckCall b t x n → (facts : List Fact) → SoundTable b facts → T (wellFormed t) → (c : ℕ) → AcceptedWith (unpacked n) c ↔ DerivationOf facts t x c
@@ -163,7 +166,7 @@ judges g facts s w = call-judges g facts (s .sound) (s .bytes) w
 
 -- the same question under another limit
 other-limit : (p : Put) (facts : List Fact) → SoundPut p facts → (f : ℕ) → SaysFollows (said p) f → (p′ : Put) (limit : ℕ) → p′ .question ≡ question (p .question .table) (p .question .fact) limit
-    → SoundPut p′ facts → (f ≤ limit ↔ YesWith (said p′) f) × (limit < f ↔ LongWith (said p′) f)
+    → SoundPut p′ facts → (f ≤ limit ↔ ((x : ℕ) × YesWith (said p′) f x)) × (limit < f ↔ LongWith (said p′) f)
 other-limit p facts s f h p′ limit e s′ =
     let t = p .question .fact in
     let z : fewest facts t ≡ some f = follows-fewest p facts s f h in
@@ -172,9 +175,39 @@ other-limit p facts s f h p′ limit e s′ =
     let c = same-count (p′ .question .table) (p′ .question .fact) facts (is p′ facts s′) limit f z′ in
     let said-by : said p′ ≡ codeOf (answerOf facts (p′ .question .fact) limit) =
     said-is p′ ∙ ap codeOf (sound-answer (p′ .question) facts (length (p′ .entry)) s′) ∙ ap (λ (l : ℕ). codeOf (answerOf facts (p′ .question .fact) l)) k in (
-      (λ l. said-by ∙ ap codeOf (c .0 l), λ y. omega (arith, k, yes-fewest (p′ .question .table) (p′ .question .fact) facts (is p′ facts s′) (p′ .question .limit) (length (p′ .entry)) f (told-yes (sym (said-is p′) ∙ y)) .1)),
+      (
+        λ l. (fillingFor facts (p′ .question .fact), said-by ∙ ap codeOf (c .0 l)),
+        λ y. omega (arith, k, yes-fewest (p′ .question .table) (p′ .question .fact) facts (is p′ facts s′) (p′ .question .limit) (length (p′ .entry)) f (y .0) (told-yes (sym (said-is p′) ∙ y .1)) .1),
+      ),
       (λ l. said-by ∙ ap codeOf (c .1 l), λ y. omega (arith, k, long-fewest (p′ .question .table) (p′ .question .fact) facts (is p′ facts s′) (p′ .question .limit) (length (p′ .entry)) f (told-long (sym (said-is p′) ∙ y)) .1)),
     )
+
+-- ---- the term named
+
+-- but a yes, no answer names a term
+only-yes : (a : Answer) → (codeOf a .number ≡ 90 → ⊥) → codeOf a .filling ≡ 0
+only-yes (Yes f x) h = absurd (h refl)
+only-yes (Done n) h = refl
+only-yes No h = refl
+only-yes (Long f) h = refl
+only-yes (Accepted n) h = refl
+only-yes (Refused r place) h = refl
+
+-- nor does a yes to a question without a gap
+gapless-answer : (b : List ℕ) (t : Fact) (limit m : ℕ) (a : Answer) → questionAnswer b t limit m ≡ a → T (wellFormed t) → codeOf a .filling ≡ 0
+gapless-answer b t limit m (Yes f x) e w =
+    let s = yes-input b t limit m f x e in
+    sym (yes-fewest b t (s .0) (s .1) limit m f x e .2) ∙ gapless-filling b t (s .0) (s .1) w
+gapless-answer b t limit m (Done n) e w = refl
+gapless-answer b t limit m No e w = refl
+gapless-answer b t limit m (Long f) e w = refl
+gapless-answer b t limit m (Accepted n) e w = refl
+gapless-answer b t limit m (Refused r place) e w = refl
+
+put-unnamed : (p : Put) → (said p .number ≡ 90 → ⊥) ⊎ T (wellFormed (p .question .fact)) → said p .filling ≡ 0
+put-unnamed p =
+    ⊎-elim (λ (h : said p .number ≡ 90 → ⊥). rw (said-is p) (only-yes (answer p) (λ z. h (rw (said-is p) z))))
+    (λ (w : T (wellFormed (p .question .fact))). rw (said-is p) (gapless-answer (p .question .table) (p .question .fact) (p .question .limit) (length (p .entry)) (answer p) refl w))
 
 -- ---- reading and writing
 
@@ -228,6 +261,7 @@ demand-2 = record {
   table-sound = table-sound;
   row-sound = row-sound;
   fact-sound = fact-sound;
+  asked-sound = asked-sound;
   question-sound = question-sound;
   check-sound = check-sound;
   answered = answered;
@@ -247,16 +281,25 @@ pub demand-3 : Demand-3
 demand-3 = record {
   least = λ p facts s. means p facts s .least;
   no-fewer = fewer-none;
-  no-fewer-checked = λ p facts s f h b part s′ in-facts x n g c e.
-      let j = judges g part s′ (s .fact) c .0 e in omega (arith, fewer-none p facts s f h part in-facts (j .derivation) (j .derives), j .count);
+  no-fewer-checked = λ p facts s f h b part s′ in-facts u fills x n g c e.
+      let j = judges g part s′ (fills .formed) c .0 e in omega (arith, fewer-none p facts s f h part in-facts u fills (j .derivation) (j .derives), j .count);
   same-count = other-limit;
-  printed = λ p facts s f e.
-      let m = means p facts s .printed f e in
+  by-rules = λ p facts s n c. rw (said-is p, sound-answer (p .question) facts (length (p .entry)) s)
+      (answers-by facts (formed p facts s) (p .question .fact) (s .fact) (p .question .limit) n c);
+  filling = λ p facts s. means p facts s .filling;
+  unnamed = put-unnamed;
+  check-unnamed = λ {b} {t} {x} g. rw (check-unpacked g) (check-names b t x);
+  read-unnamed = λ {b} {entry} g. rw (read-unpacked g) (settled-names rowOf (tableOf b) (length entry));
+  facts-unnamed = λ {b} {entry} g. rw (g .answer) (records-names (tableOf b) (length entry));
+  write-unnamed = λ {row} {entry} g. rw (write-unpacked g) (settled-names tableBytes (tableOfRow row) (length entry));
+  printed = λ p facts s f x e.
+      let m = means p facts s .printed f x e in
+      let w = means p facts s .filling f x e .fills .formed in
       let few : f ≤ 1024 = omega (arith, m .0, s .limited) in
-      (printedFor facts (p .question .fact), m .1, m .2, λ r g. judges g facts (s .table) (s .fact) f .1 (prints-derivation few (m .2)));
-  none = λ p facts s e part in-facts. (
-    derives-none p facts s e part in-facts,
-    λ b s′ x n g c h. let j = judges g part s′ (s .fact) c .0 h in derives-none p facts s e part in-facts (j .derivation) (j .derives),
+      (printedFor facts (p .question .fact), m .1, m .2, λ r g. judges g facts (s .table) w f .1 (prints-derivation few (m .2)));
+  none = λ p facts s e part in-facts u fills. (
+    derives-none p facts s e part in-facts u fills,
+    λ b s′ x n g c h. let j = judges g part s′ (fills .formed) c .0 h in derives-none p facts s e part in-facts u fills (j .derivation) (j .derives),
   );
   unwritten = λ p f. ⊎-elim (λ (e : LongWith (said p) f). left p (Long f) (λ bytes old. unfold written in refl) (told-long (sym (said-is p) ∙ e)))
       (λ (e : SaysNo (said p)). left p No (λ bytes old. unfold written in refl) (told-no (sym (said-is p) ∙ e)));

@@ -3,3 +3,4 @@ pub mod Sound
 pub mod Program
 pub mod Demands
 pub mod Cases
+pub mod Gapless

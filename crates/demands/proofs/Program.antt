@@ -1,12 +1,13 @@
 -- What the program prints: for each question what the call gives, and behind a yes a derivation that the check accepts.
 -- Assumes nothing.
-use mathlib.Core.Path.{_≡_, refl, sym, ap, _∙_}
+use mathlib.Core.Path.{_≡_, refl, sym, ap, _∙_, subst}
 use mathlib.Core.Logic.{_↔_, _⊎_, inl, inr}
 use mathlib.Core.Bool.{true}
 use mathlib.Core.List.{List, [], _∷_, _++_}
 use Prim.Native.Nat.{ℕ, _+_, _≤_}
 use native.Mathlib.Omega.{arith}
 use lib.ListN.{length, drop, replicate, length-replicate}
+use lib.Dec.{T}
 use Rattle.columns.specs.Lines.{line, Below, width, numbersAt, laidOut, flat}
 use Rattle.columns.proofs.Lines.{line-read, line-written, numbers-length}
 use Rattle.facts.specs.declared.Refusal.{Refusal}
@@ -15,9 +16,12 @@ use Rattle.facts.specs.declared.Answer.{Answer}
 use Rattle.facts.specs.declared.Answer.the-variants.{Done, Yes, No, Long, Accepted, Refused}
 use Rattle.facts.specs.declared.Code.{Code}
 use Rattle.facts.specs.Answers.{codeOf, numberOf}
+use Rattle.facts.specs.declared.Fact.{Fact}
+use Rattle.facts.specs.Facts.{wellFormed}
+use Rattle.facts.specs.Gaps.{filledBy}
 use Rattle.table.specs.Tables.{tableOf}
-use Rattle.question.specs.Question.{needed, questionAnswer, outputAfter, printedFor, printedFrom, written, Question, question, Prints}
-use Rattle.question.proofs.Answered.{yes-fewest, yes-input, fewest-prints}
+use Rattle.question.specs.Question.{needed, fillingFor, questionAnswer, outputAfter, printedFor, printedFrom, written, Question, question, Prints}
+use Rattle.question.proofs.Answered.{yes-fewest, yes-input, fewest-filled, fewest-prints}
 use Rattle.entail.specs.Packed.{packed}
 use Rattle.entail.proofs.Unpacked.{question-unpacked, check-unpacked}
 use Rattle.batch.specs.declared.Query.{Query}
@@ -51,7 +55,7 @@ laid-line k b at h = (
 plain : (a : Answer) (x : List ℕ) → (codeOf a .number ≡ 90 → ⊥) → behindCode a x ≡ []
 unfolding behindCode
 plain (Done n) x h = refl
-plain (Yes f) x h = absurd (h refl)
+plain (Yes f y) x h = absurd (h refl)
 plain No x h = refl
 plain (Long f) x h = refl
 plain (Accepted n) x h = refl
@@ -96,26 +100,28 @@ module _ (table : List ℕ) (q : Query) where
   other a e h = (λ z. h (sym (ap (λ (c : Code). c .number) (said-is ∙ ap codeOf e)) ∙ z), rw e (plain a _ h))
 
   -- behind a yes: the derivation that the call printed
-  shown : (f : ℕ) → answer ≡ Yes f → Shown put f behind
+  shown : (f x : ℕ) → answer ≡ Yes f x → Shown put f x behind
   unfolding outputAfter written behindCode printedFrom
-  shown f e =
-      let s = yes-input table (q .fact) (q .limit) (length blank) f e in
-      let y = yes-fewest table (q .fact) (s .0) (s .1) (q .limit) (length blank) f e in
+  shown f x e =
+      let s = yes-input table (q .fact) (q .limit) (length blank) f x e in
+      let y = yes-fewest table (q .fact) (s .0) (s .1) (q .limit) (length blank) f x e in
       let few : f ≤ 1024 = omega (arith, y .1, s .3) in
       let bytes : behind ≡ printedFor (s .0) (q .fact) = rw (e, s .1) in
-      let p : Prints (s .0) (q .fact) f behind = rw bytes (fewest-prints table (q .fact) (s .0) (s .1) f (y .0)) in
+      let named : filledBy (q .fact) (fillingFor (s .0) (q .fact)) ≡ filledBy (q .fact) x = ap (filledBy (q .fact)) (y .2) in
+      let p : Prints (s .0) (filledBy (q .fact) x) f behind = rw bytes (subst (λ (u : Fact). Prints (s .0) u f (printedFor (s .0) (q .fact))) named (fewest-prints table (q .fact) (s .0) (s .1) (s .2) f (y .0))) in
+      let w : T (wellFormed (filledBy (q .fact) x)) = subst (λ (u : Fact). T (wellFormed u)) named (fewest-filled table (q .fact) (s .0) (s .1) (s .2) f (y .0) .fills .formed) in
       record {
         yes = said-is ∙ ap codeOf e;
         facts = s .0;
         table = sound-table table (s .0) .0 (s .1);
         output = rw e;
         prints = p;
-        accepted = λ r g. check-unpacked g ∙ ap codeOf (prints-accepted table (s .1) (s .2) few p);
+        accepted = λ r g. check-unpacked g ∙ ap codeOf (prints-accepted table (s .1) w few p);
       }
 
   -- a yes, or another number
-  two : (a : Answer) → answer ≡ a → ((f : ℕ) × Shown put f behind) ⊎ ((said put .number ≡ 90 → ⊥) × (behind ≡ []))
-  two (Yes f) e = inl (f, shown f e)
+  two : (a : Answer) → answer ≡ a → ((f : ℕ) × (x : ℕ) × Shown put f x behind) ⊎ ((said put .number ≡ 90 → ⊥) × (behind ≡ []))
+  two (Yes f x) e = inl (f, x, shown f x e)
   two (Done n) e = inr (other (Done n) e (λ z. omega arith))
   two No e = inr (other No e (λ z. omega arith))
   two (Long f) e = inr (other (Long f) e (λ z. omega arith))

@@ -22,7 +22,9 @@ use Rattle.facts.specs.declared.Answer.{Answer}
 use Rattle.facts.specs.declared.Answer.the-variants.{Done, Yes, Long, Accepted, Refused}
 use Rattle.facts.specs.Facts.{wellFormed, hasNoTerm, hasBlank, misplaced, faultOf, orElse}
 use Rattle.facts.proofs.Terms.{by-cases, T-of, of-T}
+use Rattle.facts.specs.Gaps.{isGap, overBlank, questionFault}
 use Rattle.facts.proofs.Facts.{fault-none}
+use Rattle.facts.proofs.Gaps.{question-none}
 use Rattle.table.specs.declared.Scan.{Scan}
 use Rattle.table.specs.declared.Scan.the-variants.{Passes, Stops}
 use Rattle.table.specs.Scans.{earns, tried, firstEarned, scan}
@@ -38,9 +40,9 @@ use Rattle.rules.specs.Steps.{same, justified}
 use Rattle.rules.proofs.Steps.{same-eq, same-self, justified-is, justified-says}
 use Rattle.derivation.specs.Bytes.{lineAt}
 use Rattle.acceptance.specs.Check.{linesOf, formVerdict, stepVerdict, after, endAnswer, linesAnswer, derivationAnswer, factAnswer, tableAnswer, checkAnswer}
-use Rattle.question.specs.Question.{needed, questionFault, asked, answerBy, answerOf, unless, answerFrom, questionAnswer, Question, question}
+use Rattle.question.specs.Question.{needed, asked, fillingFor, answerBy, answerOf, unless, answerFrom, questionAnswer, Question, question}
 use Rattle.demands.specs.Refusals as refusals
-use Rattle.demands.specs.Refusals.{SoundTable, SoundRow, WholeLines, LinesRefused, TableRefused, RowRefused, FactRefused, ReadRefused, WriteRefused, QuestionRefused, CheckRefused, Lines}
+use Rattle.demands.specs.Refusals.{SoundTable, SoundRow, WholeLines, LinesRefused, TableRefused, RowRefused, FactRefused, Blanks, AskedRefused, ReadRefused, WriteRefused, QuestionRefused, CheckRefused, Lines}
 
 -- ---- what is sound
 
@@ -211,22 +213,60 @@ pub fact-refused : (t : Fact) (r : Refusal) → faultOf t ≡ Faulty r ↔ FactR
 unfolding faultOf hasNoTerm hasBlank misplaced earns firstEarned
 fact-refused t r = first-earned (earns true (λ i. t) 0) (Term ∷ Blank ∷ Part ∷ []) r
 
+-- the triple of a question
+
+blanks-say : (t : Fact) → overBlank t ≡ true ↔ Blanks t
+unfolding overBlank
+blanks-say t = (
+  λ e. by-cases (isGap (t .predicate)) refusals.in-predicate
+      (λ p. let x = both (isGap (t .subject)) (isGap (t .object)) (rw p at e) in refusals.two (x .0) (x .1)),
+  go,
+)
+  where
+    go : Blanks t → overBlank t ≡ true
+    go (refusals.in-predicate e) = rw e
+    go (refusals.two e g) = by-cases (isGap (t .predicate)) (λ p. rw p) (λ p. rw (p, e, g))
+
+blanks-not : (t : Fact) → (Blanks t → ⊥) → overBlank t ≡ false
+blanks-not t h = by-cases (overBlank t) (λ e. absurd (h (blanks-say t .0 e))) (λ e. e)
+
+asked-refused : (t : Fact) (r : Refusal) → questionFault t ≡ Faulty r → AskedRefused t r
+unfolding questionFault
+asked-refused t r e =
+    by-cases (hasNoTerm t) (λ a. said Term (rw a at e) (refusals.by-term a))
+    (λ a. by-cases (overBlank t) (λ b. said Blank (rw (a, b) at e) (refusals.by-blank a (blanks-say t .0 b)))
+    (λ b. by-cases (misplaced t)
+    (λ c. said Part (rw (a, b, c) at e) (refusals.by-part a (λ h. let z : true ≡ false = sym (blanks-say t .1 h) ∙ b in let k : _≡_ {A = ℕ} 0 1 = cc in omega arith) c))
+    (λ c. let x : Sound ≡ Faulty r = rw (a, b, c) at e in let z : _≡_ {A = ℕ} 0 1 = cc in absurd (omega arith))))
+  where
+    said : (q : Refusal) → Faulty q ≡ Faulty r → AskedRefused t q → AskedRefused t r
+    said q x h = let y : q ≡ r = cc in rw y at h
+
+refused-asked : {t : Fact} {r : Refusal} → AskedRefused t r → questionFault t ≡ Faulty r
+unfolding questionFault
+refused-asked (refusals.by-term a) = rw a
+refused-asked {t} (refusals.by-blank a b) = rw (a, blanks-say t .1 b)
+refused-asked {t} (refusals.by-part a b c) = rw (a, blanks-not t b, c)
+
+pub triple-refused : (t : Fact) (r : Refusal) → questionFault t ≡ Faulty r ↔ AskedRefused t r
+triple-refused t r = (asked-refused t r, refused-asked)
+
 -- ---- the question
 
-pub no-refusal : (limit : ℕ) (o : Option ℕ) (r : Refusal) (place : ℕ) → answerBy limit o ≡ Refused r place → ⊥
+pub no-refusal : (limit : ℕ) (o : Option ℕ) (x : ℕ) (r : Refusal) (place : ℕ) → answerBy limit o x ≡ Refused r place → ⊥
 unfolding answerBy
-no-refusal limit none r place e = let z : _≡_ {A = ℕ} 0 1 = cc in omega arith
-no-refusal limit (some f) r place e =
+no-refusal limit none x r place e = let z : _≡_ {A = ℕ} 0 1 = cc in omega arith
+no-refusal limit (some f) x r place e =
     by-cases (leb f limit)
-    (λ y. let u : Yes f ≡ Refused r place = rw y at e in let z : _≡_ {A = ℕ} 0 1 = cc in omega arith)
+    (λ y. let u : Yes f x ≡ Refused r place = rw y at e in let z : _≡_ {A = ℕ} 0 1 = cc in omega arith)
     (λ y. let u : Long f ≡ Refused r place = rw y at e in let z : _≡_ {A = ℕ} 0 1 = cc in omega arith)
 
-asked-says : (b : List ℕ) (facts : List Fact) (t : Fact) (limit m : ℕ) (v : Verdict) (r : Refusal) → SoundTable b facts → faultOf t ≡ v
+asked-says : (b : List ℕ) (facts : List Fact) (t : Fact) (limit m : ℕ) (v : Verdict) (r : Refusal) → SoundTable b facts → questionFault t ≡ v
     → orElse v (cond (leb limit 1024) (cond (leb (needed limit) m) Sound (Faulty Short)) (Faulty Allowance)) ≡ Faulty r → QuestionRefused (question b t limit) m r 0
 unfolding orElse
-asked-says b facts t limit m (Faulty q) r s z e = let i : q ≡ r = cc in rw (← i) (refusals.by-fact s (fact-refused t q .0 z))
+asked-says b facts t limit m (Faulty q) r s z e = let i : q ≡ r = cc in rw (← i) (refusals.by-fact s (triple-refused t q .0 z))
 asked-says b facts t limit m Sound r s z e =
-    let w = fault-none t .0 z in
+    let w = question-none t .0 z in
     by-cases (leb limit 1024)
     (λ y. by-cases (leb (needed limit) m)
     (λ x. let u : Sound ≡ Faulty r = rw (y, x) at e in let k : _≡_ {A = ℕ} 0 1 = cc in absurd (omega arith))
@@ -235,12 +275,12 @@ asked-says b facts t limit m Sound r s z e =
 
 unless-says : (b : List ℕ) (facts : List Fact) (t : Fact) (limit m : ℕ) (v : Verdict) (r : Refusal) (place : ℕ) → SoundTable b facts → asked t limit m ≡ v
     → unless v (answerOf facts t limit) ≡ Refused r place → QuestionRefused (question b t limit) m r place
-unfolding unless answerOf asked questionFault
-unless-says b facts t limit m Sound r place s z e = absurd (no-refusal limit (fewest facts t) r place e)
+unfolding unless answerOf asked
+unless-says b facts t limit m Sound r place s z e = absurd (no-refusal limit (fewest facts t) (fillingFor facts t) r place e)
 unless-says b facts t limit m (Faulty q) r place s z e =
     let i : q ≡ r = cc in
     let j : 0 ≡ place = cc in
-    rw (← j) (asked-says b facts t limit m (faultOf t) r s refl (rw i at z))
+    rw (← j) (asked-says b facts t limit m (questionFault t) r s refl (rw i at z))
 
 question-says : (b : List ℕ) (t : Fact) (limit m : ℕ) (u : Table) (r : Refusal) (place : ℕ) → tableOf b ≡ u → answerFrom u t limit m ≡ Refused r place → QuestionRefused (question b t limit) m r place
 unfolding answerFrom
@@ -248,11 +288,11 @@ question-says b t limit m (refused q p) r place z e = let i : q ≡ r = cc in le
 question-says b t limit m (accepted facts) r place z e = unless-says b facts t limit m (asked t limit m) r place (sound-table b facts .0 z) refl e
 
 question-is : {q : Question} {m : ℕ} {r : Refusal} {place : ℕ} → QuestionRefused q m r place → questionAnswer (q .table) (q .fact) (q .limit) m ≡ Refused r place
-unfolding questionAnswer answerFrom unless asked orElse questionFault
+unfolding questionAnswer answerFrom unless asked orElse
 question-is {q} {m} {r} {place} (refusals.by-table z) = rw (table-refused (q .table) r place .1 z)
-question-is {q} {m} {r} (refusals.by-fact {facts} s z) = rw (sound-table (q .table) facts .1 s, fact-refused (q .fact) r .1 z)
-question-is {q} (refusals.by-limit {facts} s w h) = rw (sound-table (q .table) facts .1 s, fault-none (q .fact) .1 w, lt-leb _ _ h)
-question-is {q} (refusals.by-room {facts} s w h k) = rw (sound-table (q .table) facts .1 s, fault-none (q .fact) .1 w, le-leb _ _ h, lt-leb _ _ k)
+question-is {q} {m} {r} (refusals.by-fact {facts} s z) = rw (sound-table (q .table) facts .1 s, triple-refused (q .fact) r .1 z)
+question-is {q} (refusals.by-limit {facts} s w h) = rw (sound-table (q .table) facts .1 s, question-none (q .fact) .1 w, lt-leb _ _ h)
+question-is {q} (refusals.by-room {facts} s w h k) = rw (sound-table (q .table) facts .1 s, question-none (q .fact) .1 w, le-leb _ _ h, lt-leb _ _ k)
 
 pub question-refused : (q : Question) (m : ℕ) (r : Refusal) (place : ℕ) → questionAnswer (q .table) (q .fact) (q .limit) m ≡ Refused r place ↔ QuestionRefused q m r place
 question-refused q m r place = (unfold questionAnswer in question-says (q .table) (q .fact) (q .limit) m (tableOf (q .table)) r place refl, question-is)

@@ -1,4 +1,4 @@
--- Input is sound exactly where document 01 lays down no refusal for it.
+-- Input is sound exactly where document 01 lays down no refusal for it; and which answers name no term.
 -- Assumes nothing.
 use mathlib.Core.Path.{_≡_, refl, sym, _∙_}
 use mathlib.Core.Logic.{_↔_, _⊎_, inl, inr, ⊎-elim}
@@ -7,7 +7,7 @@ use mathlib.Core.List.{List}
 use Prim.Native.Nat.{ℕ, _-_, _/_}
 use native.Mathlib.Omega.{arith}
 use lib.ListN.{length}
-use lib.Dec.{T, ltb}
+use lib.Dec.{T, leb, ltb}
 use Rattle.facts.specs.declared.Fact.{Fact}
 use Rattle.facts.specs.declared.Refusal.{Refusal}
 use Rattle.facts.specs.declared.Verdict.{Verdict}
@@ -15,22 +15,27 @@ use Rattle.facts.specs.declared.Verdict.the-variants.{Sound, Faulty}
 use Rattle.facts.specs.declared.Answer.{Answer}
 use Rattle.facts.specs.declared.Answer.the-variants.{Accepted, Refused}
 use Rattle.facts.specs.Facts.{wellFormed, faultOf}
+use Rattle.facts.specs.Answers.{codeOf}
 use Rattle.facts.proofs.Terms.{by-cases}
+use Rattle.facts.specs.Gaps.{Askable, questionFault}
 use Rattle.facts.proofs.Facts.{fault-none}
+use Rattle.facts.proofs.Gaps.{question-none}
 use Rattle.table.specs.declared.Scan.{Scan}
 use Rattle.table.specs.declared.Scan.the-variants.{Passes, Stops}
 use Rattle.table.specs.Scans.{scan}
-use Rattle.table.specs.Tables.{Table, accepted, refused, sized, tableOf, tableOfRow}
+use Rattle.table.specs.Tables.{Table, accepted, refused, sized, tableOf, tableOfRow, settled}
+use Rattle.records.specs.Records.{settledRecords}
 use Rattle.rules.specs.Paths.{fewest}
 use Rattle.rules.specs.Steps.{same}
 use Rattle.derivation.specs.Bytes.{lineAt}
 use Rattle.acceptance.specs.Check.{formVerdict, stepVerdict, after, endAnswer, linesAnswer, derivationAnswer, factAnswer, tableAnswer, checkAnswer}
 use Rattle.acceptance.proofs.Accepts.{check-accepts}
-use Rattle.question.specs.Question.{asked, answerOf, unless, questionAnswer, Question}
-use Rattle.question.proofs.Answered.{answer-accepted, answer-sound, asked-sound, asked-formed}
+use Rattle.question.specs.Question.{asked, fillingFor, answerOf, unless, questionAnswer, Question}
+use Rattle.question.proofs.Answered as answered
+use Rattle.question.proofs.Answered.{answer-accepted, answer-sound}
 use Rattle.demands.specs.Refusals as refusals
-use Rattle.demands.specs.Refusals.{SoundTable, SoundRow, SoundQuestion, SoundCheck, TableRefused, RowRefused, FactRefused, QuestionRefused, CheckRefused}
-use Rattle.demands.proofs.Refusals.{sound-table, sound-row, table-refused, row-refused, fact-refused, no-refusal, question-refused, check-refused}
+use Rattle.demands.specs.Refusals.{SoundTable, SoundRow, SoundQuestion, SoundCheck, TableRefused, RowRefused, FactRefused, AskedRefused, QuestionRefused, CheckRefused}
+use Rattle.demands.proofs.Refusals.{sound-table, sound-row, table-refused, row-refused, fact-refused, triple-refused, no-refusal, question-refused, check-refused}
 
 -- ---- tables and rows
 
@@ -54,7 +59,7 @@ table-sound b = decided (tableOf b) (SoundTable b) (TableRefused b) (sound-table
 pub row-sound : (row : List ℕ) → ((facts : List Fact) × SoundRow row facts) ↔ ((r : Refusal) (place : ℕ) → RowRefused row r place → ⊥)
 row-sound row = decided (tableOfRow row) (SoundRow row) (RowRefused row) (sound-row row) (row-refused row)
 
--- ---- the fact
+-- ---- the fact put to the check, and the triple asked
 
 pub fact-sound : (t : Fact) → T (wellFormed t) ↔ ((r : Refusal) → FactRefused t r → ⊥)
 fact-sound t = (never, go (faultOf t) refl)
@@ -65,6 +70,16 @@ fact-sound t = (never, go (faultOf t) refl)
     go : (v : Verdict) → faultOf t ≡ v → ((r : Refusal) → FactRefused t r → ⊥) → T (wellFormed t)
     go Sound e none = fault-none t .0 e
     go (Faulty r) e none = absurd (none r (fact-refused t r .0 e))
+
+pub asked-sound : (t : Fact) → Askable t ↔ ((r : Refusal) → AskedRefused t r → ⊥)
+asked-sound t = (never, go (questionFault t) refl)
+  where
+    never : Askable t → (r : Refusal) → AskedRefused t r → ⊥
+    never w r e = let u : Sound ≡ Faulty r = sym (question-none t .1 w) ∙ triple-refused t r .1 e in let z : _≡_ {A = ℕ} 0 1 = cc in omega arith
+
+    go : (v : Verdict) → questionFault t ≡ v → ((r : Refusal) → AskedRefused t r → ⊥) → Askable t
+    go Sound e none = question-none t .0 e
+    go (Faulty r) e none = absurd (none r (triple-refused t r .0 e))
 
 -- ---- the question
 
@@ -78,7 +93,7 @@ module _ (q : Question) (facts : List Fact) (m : ℕ) (s : SoundQuestion q facts
 
   sound-unrefused : (r : Refusal) (place : ℕ) → QuestionRefused q m r place → ⊥
   sound-unrefused r place h =
-      no-refusal (q .limit) (fewest facts (q .fact)) r place (unfold answerOf in (sym sound-answer ∙ question-refused q m r place .1 h))
+      no-refusal (q .limit) (fewest facts (q .fact)) (fillingFor facts (q .fact)) r place (unfold answerOf in (sym sound-answer ∙ question-refused q m r place .1 h))
 
 unrefused-sound : (q : Question) (m : ℕ) (u : Table) → tableOf (q .table) ≡ u → ((r : Refusal) (place : ℕ) → QuestionRefused q m r place → ⊥) → (facts : List Fact) × SoundQuestion q facts m
 unrefused-sound q m (refused r place) e none = absurd (none r place (refusals.by-table (table-refused (q .table) r place .0 e)))
@@ -87,8 +102,8 @@ unrefused-sound q m (accepted facts) e none = go (asked (q .fact) (q .limit) m) 
     go : (v : Verdict) → asked (q .fact) (q .limit) m ≡ v → (facts : List Fact) × SoundQuestion q facts m
     go (Faulty r) z = absurd (none r 0 (question-refused q m r 0 .0 (answer-accepted (q .table) (q .fact) facts e (q .limit) m ∙ unfold unless in (rw z))))
     go Sound z =
-        let l = asked-sound (q .fact) (q .limit) m z in
-        (facts, record { table = sound-table (q .table) facts .0 e; fact = asked-formed (q .fact) (q .limit) m z; limited = l .0; room = l .1 })
+        let l = answered.asked-sound (q .fact) (q .limit) m z in
+        (facts, record { table = sound-table (q .table) facts .0 e; fact = l .0; limited = l .1; room = l .2 })
 
 pub question-sound : (q : Question) (m : ℕ) → ((facts : List Fact) × SoundQuestion q facts m) ↔ ((r : Refusal) (place : ℕ) → QuestionRefused q m r place → ⊥)
 question-sound q m = (λ s. sound-unrefused q (s .0) m (s .1), unrefused-sound q m (tableOf (q .table)) refl)
@@ -140,3 +155,43 @@ check-sound b t x = (never, go (tableOf b) refl)
     go : (u : Table) → tableOf b ≡ u → ((r : Refusal) (place : ℕ) → CheckRefused b t x r place → ⊥) → (facts : List Fact) × (n : ℕ) × SoundCheck b facts t x n
     go (refused r place) e none = absurd (none r place (refusals.by-table (table-refused b r place .0 e)))
     go (accepted facts) e none = judged facts e (faultOf t) refl none
+
+-- ---- no term is named by check, reading and writing
+
+after-names : (c : Scan) (a : Answer) → codeOf a .filling ≡ 0 → codeOf (after c a) .filling ≡ 0
+unfolding after
+after-names (Passes n) a e = e
+after-names (Stops r place) a e = refl
+
+end-names : (t : Fact) (x : List ℕ) (n : ℕ) → codeOf (endAnswer t x n) .filling ≡ 0
+unfolding endAnswer
+end-names t x n = by-cases (same (lineAt x (n - 1) .fact) t) (λ e. rw e) (λ e. rw e)
+
+lines-name : (facts : List Fact) (t : Fact) (x : List ℕ) → codeOf (derivationAnswer facts t x) .filling ≡ 0
+unfolding derivationAnswer linesAnswer
+lines-name facts t x =
+    let n = length x / 31 in
+    by-cases (ltb 0 (length x) && sized 31 63457 (length x))
+    (λ e. rw e (after-names (scan (formVerdict x) 0 n) _ (after-names (scan (stepVerdict facts x) 0 n) _ (end-names t x n)))) (λ e. rw e)
+
+pub check-names : (b : List ℕ) (t : Fact) (x : List ℕ) → codeOf (checkAnswer b t x) .filling ≡ 0
+unfolding checkAnswer tableAnswer factAnswer
+check-names b t x = go (tableOf b)
+  where
+    fact-names : (facts : List Fact) (v : Verdict) → codeOf (factAnswer v (derivationAnswer facts t x)) .filling ≡ 0
+    fact-names facts Sound = lines-name facts t x
+    fact-names facts (Faulty r) = refl
+
+    go : (u : Table) → codeOf (tableAnswer u t x) .filling ≡ 0
+    go (refused r place) = refl
+    go (accepted facts) = fact-names facts (faultOf t)
+
+pub settled-names : (content : List Fact → List ℕ) (t : Table) (m : ℕ) → codeOf (settled content t m) .filling ≡ 0
+unfolding settled
+settled-names content (refused r place) m = refl
+settled-names content (accepted facts) m = by-cases (leb (length (content facts)) m) (λ e. rw e) (λ e. rw e)
+
+pub records-names : (t : Table) (m : ℕ) → codeOf (settledRecords t m) .filling ≡ 0
+unfolding settledRecords
+records-names (refused r place) m = refl
+records-names (accepted facts) m = by-cases (leb (length facts) m) (λ e. rw e) (λ e. rw e)

@@ -1,3 +1,4 @@
 pub mod Refusals
 pub mod Demands
+pub mod Gapless
 pub mod Cases

@@ -12,7 +12,8 @@ use Rattle.columns.specs.Lines.{laidOut}
 use Rattle.facts.specs.declared.Fact.{Fact}
 use Rattle.facts.specs.declared.Refusal.{Refusal}
 use Rattle.facts.specs.declared.Refusal.the-variants.{Size, Term, Blank, Part, Allowance, Short, Form, Step, End}
-use Rattle.facts.specs.Facts.{wellFormed}
+use Rattle.facts.specs.Facts.{wellFormed, hasNoTerm, misplaced}
+use Rattle.facts.specs.Gaps.{isGap, Askable}
 use Rattle.table.specs.Scans.{earns, tried, First}
 use Rattle.table.specs.Tables.{TableFacts, rowOf, tableBytes, lineFact, rowFact}
 use Rattle.rules.specs.Graph.{_∈_}
@@ -34,10 +35,10 @@ pub record SoundRow (row : List ℕ) (facts : List Fact) : Type 0 where
   pub numbers : row ≡ rowOf facts
   pub sound : TableFacts facts
 
--- a sound table with these facts, fact, limit (document 01's allowance) and m bytes of output (its paper)
+-- a sound table with these facts, a triple that may be asked, limit (document 01's allowance) and m bytes of output (its paper)
 pub record SoundQuestion (q : Question) (facts : List Fact) (m : ℕ) : Type 0 where
   pub table : SoundTable (q .table) facts
-  pub fact : T (wellFormed (q .fact))
+  pub fact : Askable (q .fact)
   pub limited : q .limit ≤ 1024
   pub room : needed (q .limit) ≤ m
 
@@ -83,16 +84,27 @@ pub data WriteRefused (row : List ℕ) (m : ℕ) : Refusal → ℕ → Type 0 wh
 
 -- ---- question and check
 
--- the first of 3, 4, 5, in that order, that the triple earns
+-- the first of 3, 4, 5, in that order, that the triple put to the check earns
 abbrev pub FactRefused : Fact → Refusal → Type 0
 FactRefused t = First (earns true (λ i. t) 0) (Term ∷ Blank ∷ Part ∷ [])
+
+-- "A blank predicate, two blanks in one triple, equal or not"
+pub data Blanks (t : Fact) : Type 0 where
+  in-predicate : isGap (t .predicate) ≡ true → Blanks t
+  two : isGap (t .subject) ≡ true → isGap (t .object) ≡ true → Blanks t
+
+-- the first of 3, 4, 5, in that order, that the triple of a question earns: 3 and 5 as elsewhere, 4 for such blanks alone
+pub data AskedRefused (t : Fact) : Refusal → Type 0 where
+  by-term : hasNoTerm t ≡ true → AskedRefused t Term
+  by-blank : hasNoTerm t ≡ false → Blanks t → AskedRefused t Blank
+  by-part : hasNoTerm t ≡ false → (Blanks t → ⊥) → misplaced t ≡ true → AskedRefused t Part
 
 -- a question: the table's, the triple's, 7 for the limit, 8 for m bytes of output
 pub data QuestionRefused (q : Question) (m : ℕ) : Refusal → ℕ → Type 0 where
   by-table : {r : Refusal} {place : ℕ} → TableRefused (q .table) r place → QuestionRefused q m r place
-  by-fact : {facts : List Fact} {r : Refusal} → SoundTable (q .table) facts → FactRefused (q .fact) r → QuestionRefused q m r 0
-  by-limit : {facts : List Fact} → SoundTable (q .table) facts → T (wellFormed (q .fact)) → 1024 < q .limit → QuestionRefused q m Allowance 0
-  by-room : {facts : List Fact} → SoundTable (q .table) facts → T (wellFormed (q .fact)) → q .limit ≤ 1024 → m < needed (q .limit) → QuestionRefused q m Short 0
+  by-fact : {facts : List Fact} {r : Refusal} → SoundTable (q .table) facts → AskedRefused (q .fact) r → QuestionRefused q m r 0
+  by-limit : {facts : List Fact} → SoundTable (q .table) facts → Askable (q .fact) → 1024 < q .limit → QuestionRefused q m Allowance 0
+  by-room : {facts : List Fact} → SoundTable (q .table) facts → Askable (q .fact) → q .limit ≤ 1024 → m < needed (q .limit) → QuestionRefused q m Short 0
 
 -- 1 to 2,047 whole lines
 pub record Lines (x : List ℕ) (n : ℕ) : Type 0 where

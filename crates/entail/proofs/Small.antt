@@ -1,4 +1,5 @@
--- Every answer fits the bits of its number: places are line numbers, and counts are numbers of facts or lines.
+-- Every answer fits the bits of its number: places are line numbers, counts are numbers of facts or lines, and what a yes names is a
+-- term.
 -- Assumes nothing.
 use mathlib.Core.Path.{_≡_, refl}
 use mathlib.Core.Bool.{Bool, _&&_}
@@ -33,8 +34,9 @@ use Rattle.rules.specs.Derivations.{tableLines}
 use Rattle.rules.specs.Steps.{same}
 use Rattle.derivation.specs.Bytes.{lineAt}
 use Rattle.rules.specs.Paths.{fewest}
-use Rattle.question.specs.Question.{asked, answerBy, answerOf, unless, answerFrom, questionAnswer}
-use Rattle.question.proofs.Answered.{fewest-meant}
+use Rattle.rules.proofs.Chosen.{fewest-few}
+use Rattle.question.specs.Question.{asked, fillingFor, answerBy, answerOf, unless, answerFrom, questionAnswer}
+use Rattle.question.proofs.Answered.{asked-sound, named-within}
 use Rattle.acceptance.specs.Check.{linesOf, formVerdict, stepVerdict, after, endAnswer, linesAnswer, derivationAnswer, factAnswer, tableAnswer, checkAnswer}
 use Rattle.entail.specs.Packed.{packed, unpacked, Small}
 
@@ -43,11 +45,13 @@ pub unpack-pack : (c : Code) → Small c → unpacked (packed c) ≡ c
 unfolding unpacked
 unpack-pack c s =
     let n : packed c % 256 ≡ c .number = omega (arith, s .number) in
-    let q : packed c / 256 ≡ c .place + 16777216 * c .count = omega (arith, s .number) in
+    let q : packed c / 256 ≡ c .place + 16777216 * c .count + 1099511627776 * c .filling = omega (arith, s .number) in
     let p : packed c / 256 % 16777216 ≡ c .place = rw q (omega (arith, s .place)) in
-    let h : packed c / 4294967296 ≡ c .count = omega (arith, s .number, s .place) in
+    let h : packed c / 4294967296 ≡ c .count + 65536 * c .filling = omega (arith, s .number, s .place) in
     let k : packed c / 4294967296 % 65536 ≡ c .count = rw h (omega (arith, s .count)) in
-    λ i. record { number = n i; place = p i; count = k i }
+    let g : packed c / 281474976710656 ≡ c .filling = omega (arith, s .number, s .place, s .count) in
+    let x : packed c / 281474976710656 % 65536 ≡ c .filling = rw g (omega (arith, s .filling)) in
+    λ i. record { number = n i; place = p i; count = k i; filling = x i }
 
 number-small : (r : Refusal) → numberOf r < 256
 number-small Size = omega arith
@@ -63,7 +67,7 @@ number-small Step = omega arith
 number-small End = omega arith
 
 pub refused-small : (r : Refusal) (place : ℕ) → place ≤ 2047 → Small (codeOf (Refused r place))
-refused-small r place h = record { number = number-small r; place = omega arith; count = omega arith }
+refused-small r place h = record { number = number-small r; place = omega arith; count = omega arith; filling = omega arith }
 
 -- ---- tables
 
@@ -74,7 +78,7 @@ unfolding settled
 settled-small content (refused r place) m p f = refused-small r place (omega (arith, p r place refl))
 settled-small content (accepted facts) m p f =
     by-cases (leb (length (content facts)) m)
-    (λ e. rw e (record { number = omega arith; place = omega arith; count = omega (arith, f facts refl) }))
+    (λ e. rw e (record { number = omega arith; place = omega arith; count = omega (arith, f facts refl); filling = omega arith }))
     (λ e. rw e (refused-small Short 0 (omega arith)))
 
 pub read-small : (b : List ℕ) (m : ℕ) → Small (codeOf (settled rowOf (tableOf b) m))
@@ -106,7 +110,7 @@ end-small : (t : Fact) (x : List ℕ) (n : ℕ) → n ≤ 2047 → Small (codeOf
 unfolding endAnswer
 end-small t x n h =
     by-cases (same (lineAt x (n - 1) .fact) t)
-    (λ e. rw e (record { number = omega arith; place = omega arith; count = omega (arith, tables-few (linesOf x n), items-length (lineAt x) 0 n) }))
+    (λ e. rw e (record { number = omega arith; place = omega arith; count = omega (arith, tables-few (linesOf x n), items-length (lineAt x) 0 n); filling = omega arith }))
     (λ e. rw e (refused-small End n h))
 
 derivation-small : (facts : List Fact) (t : Fact) (x : List ℕ) → Small (codeOf (derivationAnswer facts t x))
@@ -132,17 +136,17 @@ check-small b t x = go (tableOf b) refl
 
 -- ---- the question
 
-answer-small : (limit : ℕ) (o : Option ℕ) → ((f : ℕ) → o ≡ some f → f ≤ 1024) → Small (codeOf (answerBy limit o))
+answer-small : (limit : ℕ) (o : Option ℕ) (x : ℕ) → ((f : ℕ) → o ≡ some f → f ≤ 1024) → ((f : ℕ) → o ≡ some f → x ≤ 65535) → Small (codeOf (answerBy limit o x))
 unfolding answerBy
-answer-small limit none h = record { number = omega arith; place = omega arith; count = omega arith }
-answer-small limit (some f) h =
+answer-small limit none x h g = record { number = omega arith; place = omega arith; count = omega arith; filling = omega arith }
+answer-small limit (some f) x h g =
     by-cases (leb f limit)
-    (λ e. rw e (record { number = omega arith; place = omega arith; count = omega (arith, h f refl) }))
-    (λ e. rw e (record { number = omega arith; place = omega arith; count = omega (arith, h f refl) }))
+    (λ e. rw e (record { number = omega arith; place = omega arith; count = omega (arith, h f refl); filling = omega (arith, g f refl) }))
+    (λ e. rw e (record { number = omega arith; place = omega arith; count = omega (arith, h f refl); filling = omega arith }))
 
-unless-small : (v : Verdict) (a : Answer) → Small (codeOf a) → Small (codeOf (unless v a))
+unless-small : (v : Verdict) (a : Answer) → (v ≡ Sound → Small (codeOf a)) → Small (codeOf (unless v a))
 unfolding unless
-unless-small Sound a s = s
+unless-small Sound a s = s refl
 unless-small (Faulty r) a s = refused-small r 0 (omega arith)
 
 pub question-small : (b : List ℕ) (t : Fact) (limit m : ℕ) → Small (codeOf (questionAnswer b t limit m))
@@ -153,4 +157,5 @@ question-small b t limit m = go (tableOf b) refl
     go (refused r place) e = refused-small r place (omega (arith, table-place b r place e))
     go (accepted facts) e =
         unless-small (asked t limit m) (answerOf facts t limit)
-        (answer-small limit (fewest facts t) (λ f h. omega (arith, fewest-meant b t facts e f h .1, accepted-size b facts e .1)))
+        (λ s. answer-small limit (fewest facts t) (fillingFor facts t) (λ f h. omega (arith, fewest-few facts t f h, accepted-size b facts e .1))
+        (λ f h. named-within b t facts e (asked-sound t limit m s .0) f h))

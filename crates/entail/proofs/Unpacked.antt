@@ -1,4 +1,4 @@
--- What the four calls return, taken apart, is the number, place and count of the definition's answer; so what that answer means holds of
+-- What the four calls return, taken apart, is the number, place, count and term of the definition's answer; so what that answer means holds of
 -- them.
 -- Assumes nothing.
 use mathlib.Core.Path.{_≡_, refl}

@@ -1,5 +1,6 @@
 // The public library: the question, the check, reading and writing as C calls them (document 01, "Panel and program").
-// A slice is a pointer and then a length; an answer is one number: bits 0 to 7 number, 8 to 31 place, 32 to 47 count.
+// A slice is a pointer and then a length; an answer is one number: bits 0 to 7 number, 8 to 31 place, 32 to 47 count, 48 to 63 the
+// term that a yes names for a gap.
 use facts::Answer;
 use facts::Fact;
 ghost use mathlib.Core.Path.{_≡_};
@@ -10,10 +11,12 @@ ghost use Rattle.question.specs.Question.{question, Means};
 ghost use Rattle.entail.specs.Packed.{packed, unpacked, Small};
 ghost use Rattle.entail.specs.Calls.{QuestionCall, CheckCall, ReadCall, WriteCall};
 
-// The bits of a place (document 01's: a line's number, or 0) and of a count begin here.
+// The bits of a place (document 01's: a line's number, or 0), of a count and of the term named begin here.
 const PLACE: u64 = 256;
 
 const COUNT: u64 = 4294967296;
+
+const FILLING: u64 = 281474976710656;
 
 // An answer in one number.
 fn pack(a: Answer) -> u64
@@ -21,7 +24,7 @@ fn pack(a: Answer) -> u64
     ensures { λ r. ⌜ r ≡ packed (codeOf a) ⌝ }
 {
     let c = codes::code_of(a);
-    c.number as u64 + PLACE * c.place as u64 + COUNT * c.count as u64
+    c.number as u64 + PLACE * c.place as u64 + COUNT * c.count as u64 + FILLING * c.filling as u64
 }
 
 // The fact of three terms.
@@ -35,7 +38,7 @@ fn fact_of(subject: u32, predicate: u32, object: u32) -> Fact
     }
 }
 
-// Puts a question: limit is document 01's allowance, output its paper.
+// Puts a question, which may have a gap: limit is document 01's allowance, output its paper.
 #[no_mangle]
 pub extern "C" fn factbox_question(
     table: &[u8],

@@ -1,4 +1,4 @@
--- Document 01's numbers tell the answers apart: an answer is read back from its number, place and count.
+-- Document 01's numbers tell the answers apart: an answer is read back from its number, place and count and the term it names.
 -- Assumes nothing.
 use mathlib.Core.Path.{_≡_, refl, sym, ap, _∙_}
 use mathlib.Core.Bool.{cond}
@@ -21,14 +21,14 @@ refusals = Size ∷ Column ∷ Term ∷ Blank ∷ Part ∷ Order ∷ Allowance �
 abbrev answerFor : Code → Answer
 answerFor c =
     cond (eqb (c .number) 0) (Done (c .count))
-    (cond (eqb (c .number) 90) (Yes (c .count))
+    (cond (eqb (c .number) 90) (Yes (c .count) (c .filling))
     (cond (eqb (c .number) 91) No
     (cond (eqb (c .number) 92) (Long (c .count))
     (cond (eqb (c .number) 93) (Accepted (c .count)) (Refused (getD refusals (c .number - 1) Size) (c .place))))))
 
 answer-back : (a : Answer) → answerFor (codeOf a) ≡ a
 answer-back (Done n) = refl
-answer-back (Yes n) = refl
+answer-back (Yes n x) = refl
 answer-back No = refl
 answer-back (Long n) = refl
 answer-back (Accepted n) = refl
@@ -49,8 +49,8 @@ pub same-answer : (a b : Answer) → codeOf a ≡ codeOf b → a ≡ b
 same-answer a b e = sym (answer-back a) ∙ ap (λ c. answerFor c) e ∙ answer-back b
 
 -- what number, place and count say of an answer is that it is so
-pub told-yes : {a : Answer} {f : ℕ} → YesWith (codeOf a) f → a ≡ Yes f
-told-yes {a} {f} e = same-answer a (Yes f) e
+pub told-yes : {a : Answer} {f x : ℕ} → YesWith (codeOf a) f x → a ≡ Yes f x
+told-yes {a} {f} {x} e = same-answer a (Yes f x) e
 
 pub told-long : {a : Answer} {f : ℕ} → LongWith (codeOf a) f → a ≡ Long f
 told-long {a} {f} e = same-answer a (Long f) e

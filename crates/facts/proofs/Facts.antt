@@ -63,7 +63,7 @@ unfolding wellFormed
 whole f s p o = yes-and (isNode (f .subject) && isPredicate (f .predicate)) _ (yes-and (isNode (f .subject)) _ s p) o
 
 -- a test that is not refused
-passed : (b : Bool) (r : Refusal) (v : Verdict) → cond b (Faulty r) v ≡ Sound → T (not b) × (v ≡ Sound)
+pub passed : (b : Bool) (r : Refusal) (v : Verdict) → cond b (Faulty r) v ≡ Sound → T (not b) × (v ≡ Sound)
 passed false r v e = (tt, e)
 passed true r v e = let z : _≡_ {A = ℕ} 0 1 = cc in absurd (omega arith)
 

@@ -1,3 +1,4 @@
 pub mod Terms
 pub mod Facts
+pub mod Gaps
 pub mod Codes

@@ -1,4 +1,4 @@
--- Document 01's number, place and count for each answer.
+-- Document 01's number, place and count for each answer, and the term that a yes names for a gap (document 02, Point 1).
 -- Assumes nothing.
 use mathlib.Core.Path.{_≡_}
 use mathlib.Core.Logic.{_⊎_}
@@ -9,8 +9,13 @@ use Rattle.facts.specs.declared.Answer.{Answer}
 use Rattle.facts.specs.declared.Answer.the-variants.{Done, Yes, No, Long, Accepted, Refused}
 use Rattle.facts.specs.declared.Code.{Code}
 
+-- three numbers, and no term named
 abbrev pub numbered : ℕ → ℕ → ℕ → Code
-numbered n p c = record { number = n; place = p; count = c }
+numbered n p c = record { number = n; place = p; count = c; filling = 0 }
+
+-- yes with a count, and the term that it names
+abbrev pub yesNaming : ℕ → ℕ → Code
+yesNaming f x = record { number = 90; place = 0; count = f; filling = x }
 
 abbrev pub numberOf : Refusal → ℕ
 numberOf Size = 1
@@ -25,20 +30,20 @@ numberOf Form = 9
 numberOf Step = 10
 numberOf End = 11
 
--- a refusal carries number and place, count 0; every other answer its number and count, place 0
+-- a refusal carries number and place, count 0; every other answer its number and count, place 0; only a yes names a term
 abbrev pub codeOf : Answer → Code
 codeOf (Done n) = numbered 0 0 n
-codeOf (Yes n) = numbered 90 0 n
+codeOf (Yes n x) = yesNaming n x
 codeOf No = numbered 91 0 0
 codeOf (Long n) = numbered 92 0 n
 codeOf (Accepted n) = numbered 93 0 n
 codeOf (Refused r p) = numbered (numberOf r) p 0
 
--- ---- what three numbers say
+-- ---- what the numbers say
 
--- yes, with the count f
-abbrev pub YesWith : Code → ℕ → Type 0
-YesWith c f = c ≡ numbered 90 0 f
+-- yes, with the count f, and x named for the gap
+abbrev pub YesWith : Code → ℕ → ℕ → Type 0
+YesWith c f x = c ≡ yesNaming f x
 
 -- "long", with the count f
 abbrev pub LongWith : Code → ℕ → Type 0
@@ -46,7 +51,7 @@ LongWith c f = c ≡ numbered 92 0 f
 
 -- yes or "long", with the count f
 abbrev pub SaysFollows : Code → ℕ → Type 0
-SaysFollows c f = YesWith c f ⊎ LongWith c f
+SaysFollows c f = ((x : ℕ) × YesWith c f x) ⊎ LongWith c f
 
 -- no
 abbrev pub SaysNo : Code → Type 0

@@ -49,20 +49,21 @@ pub enum Verdict {
     Faulty(Refusal),
 }
 
-// What a call answers. A count is a number of facts or table lines; the u32 of a refusal is document 01's place:
-// a line's number, counted from 1, or 0.
+// What a call answers. A count is a number of facts or table lines; the second number of a yes is the term that fills the
+// question's gap, or 0 where it has none; the u32 of a refusal is document 01's place: a line's number, counted from 1, or 0.
 pub enum Answer {
     Done(u32),
-    Yes(u32),
+    Yes(u32, u32),
     No,
     Long(u32),
     Accepted(u32),
     Refused(Refusal, u32),
 }
 
-// An answer as document 01 numbers it.
+// An answer as document 01 numbers it, and the term that it names for a gap.
 pub struct Code {
     pub number: u32,
     pub place: u32,
     pub count: u32,
+    pub filling: u32,
 }

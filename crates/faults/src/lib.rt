@@ -10,7 +10,7 @@ ghost use mathlib.Core.Path.{_≡_};
 ghost use Rattle.facts.specs.Facts.{hasNoTerm, hasBlank, faultOf, before};
 
 // What earns refusal 3: a number of the fact is no term.
-fn has_no_term(f: Fact) -> bool
+pub fn has_no_term(f: Fact) -> bool
     ensures { λ r. ⌜ r ≡ hasNoTerm f ⌝ }
 {
     is_no_term(kind_of(f.subject))

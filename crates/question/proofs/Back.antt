@@ -14,7 +14,7 @@ use mir.Facts.{and-yes, yes-and, eqb-yes, yes-eqb, ltb-yes}
 use Rattle.facts.specs.declared.Fact.{Fact}
 use Rattle.facts.specs.Facts.{fact}
 use Rattle.rules.specs.Graph.{_∈_, Path, step, least}
-use Rattle.rules.specs.Paths.{start, next, goal}
+use Rattle.rules.specs.Paths.{startFor, next, goalFor}
 use Rattle.rules.specs.Chosen.{arrives, leads, back, chosenBy}
 use Rattle.facts.proofs.Terms.{by-cases, T-of}
 use Rattle.rules.proofs.Graph.{at-place, Answer, least-answer}
@@ -77,7 +77,7 @@ module _ (row : List ℕ) (n w : ℕ) (t : Fact) (f : ℕ) (s : State) (m : Met 
   at i = getD S i (fact 0 0 0)
 
   abbrev To : Fact → ℕ → Type 0
-  To b k = Path (start w t) (next w) S b k
+  To b k = Path (startFor w t) (next w) S b k
 
   -- no path to b has fewer than k facts
   abbrev pub Low : ℕ → Fact → Type 0
@@ -85,33 +85,33 @@ module _ (row : List ℕ) (n w : ℕ) (t : Fact) (f : ℕ) (s : State) (m : Met 
 
   -- among the places marked k, and those to which a path of k facts leads, the same lead to b
   module _ (k : ℕ) (b : Fact) (some : 0 < k) (less : k < f) (is : b ∈ S) (low : Low (suc k) b) where
-    by-mark : (i : ℕ) → i < n → T (precedes row n w (s .mark) k b i) → T (leads (start w t) (next w) S (fact 0 0 0) k b i)
+    by-mark : (i : ℕ) → i < n → T (precedes row n w (s .mark) k b i) → T (leads (startFor w t) (next w) S (fact 0 0 0) k b i)
     by-mark i h x =
         let u = and-yes (eqb (getD (s .mark) i 0) k) (next w (rowFact row i) b) x in
         let e = eqb-yes {a = getD (s .mark) i 0} {b = k} (u .0) in
         let p = subst (Way row n w t i) e (m .sound i (omega (arith, e)) .1) in
-        rw (at-fact row n i h) (yes-and (arrives (start w t) (next w) S k (rowFact row i)) (next w (rowFact row i) b) (arrives-is _ _ S p) (u .1))
+        rw (at-fact row n i h) (yes-and (arrives (startFor w t) (next w) S k (rowFact row i)) (next w (rowFact row i) b) (arrives-is _ _ S p) (u .1))
 
-    by-path : (i : ℕ) → i < n → T (leads (start w t) (next w) S (fact 0 0 0) k b i) → T (precedes row n w (s .mark) k b i)
+    by-path : (i : ℕ) → i < n → T (leads (startFor w t) (next w) S (fact 0 0 0) k b i) → T (precedes row n w (s .mark) k b i)
     by-path i h x =
-        let x′ : T (arrives (start w t) (next w) S k (rowFact row i) && next w (rowFact row i) b) = rw (at-fact row n i h) at x in
-        let u = and-yes (arrives (start w t) (next w) S k (rowFact row i)) (next w (rowFact row i) b) x′ in
+        let x′ : T (arrives (startFor w t) (next w) S k (rowFact row i) && next w (rowFact row i) b) = rw (at-fact row n i h) at x in
+        let u = and-yes (arrives (startFor w t) (next w) S k (rowFact row i)) (next w (rowFact row i) b) x′ in
         let v = m .whole i h k (arrives-says _ _ S k (fact-in row i h) (u .0)) less in
         let l = low _ (step (m .sound i (v .0) .1) is (u .1)) in
         yes-and (eqb (getD (s .mark) i 0) k) (next w (rowFact row i) b) (yes-eqb {a = getD (s .mark) i 0} {b = k} (omega (arith, l, v .1))) (u .1)
 
-    pub same-first : least (precedes row n w (s .mark) k b) 0 n ≡ least (leads (start w t) (next w) S (fact 0 0 0) k b) 0 (length S)
+    pub same-first : least (precedes row n w (s .mark) k b) 0 n ≡ least (leads (startFor w t) (next w) S (fact 0 0 0) k b) 0 (length S)
     same-first = rw (items-length (rowFact row) 0 n) (least-same _ _ 0 n (λ i a h. both _ _ (by-mark i (omega arith)) (by-path i (omega arith))))
 
   -- the place found before one to which a shortest path of k + 1 facts leads
   pub record Before (k j i : ℕ) : Type 0 where
     pub found : beforeOf row n w (s .mark) k (rowFact row j) ≡ i
     pub inside : i < n
-    pub arrives : T (arrives (start w t) (next w) S k (at i))
+    pub arrives : T (arrives (startFor w t) (next w) S k (at i))
     pub low : Low k (at i)
-    pub back : back (start w t) (next w) S (fact 0 0 0) (suc k) j ≡ back (start w t) (next w) S (fact 0 0 0) k i ++ (j ∷ [])
+    pub back : back (startFor w t) (next w) S (fact 0 0 0) (suc k) j ≡ back (startFor w t) (next w) S (fact 0 0 0) k i ++ (j ∷ [])
 
-  pub goes-back : (k j : ℕ) → 0 < k → k < f → j < n → T (arrives (start w t) (next w) S (suc k) (at j)) → Low (suc k) (at j) → (i : ℕ) × Before k j i
+  pub goes-back : (k j : ℕ) → 0 < k → k < f → j < n → T (arrives (startFor w t) (next w) S (suc k) (at j)) → Low (suc k) (at j) → (i : ℕ) × Before k j i
   unfolding back
   goes-back zero j s l h a low = absurd (omega arith)
   goes-back (suc k) j s l h a low =
@@ -130,7 +130,7 @@ module _ (row : List ℕ) (n w : ℕ) (t : Fact) (f : ℕ) (s : State) (m : Met 
       )
 
   -- by the marks and by paths, the same goals end a path of f facts
-  comes-is : (k j : ℕ) → f ≡ suc k → j < n → T (goal t (at j)) → comesBy row n w (s .mark) t k (rowFact row j) ≡ arrives (start w t) (next w) S (suc k) (at j)
+  comes-is : (k j : ℕ) → f ≡ suc k → j < n → T (goalFor t (at j)) → comesBy row n w (s .mark) t k (rowFact row j) ≡ arrives (startFor w t) (next w) S (suc k) (at j)
   unfolding arrives
   comes-is zero j e h g = rw (at-fact row n j h) refl
   comes-is (suc k) j e h g =
@@ -139,55 +139,55 @@ module _ (row : List ℕ) (n w : ℕ) (t : Fact) (f : ℕ) (s : State) (m : Met 
       rw (eqb·suc-zero k, ← at-fact row n j h, q) (both _ _ (λ x. go _ refl (least-answer _ 0 (length S)) x) (λ x. let r = leads-some _ _ S (fact 0 0 0) k j x in rw (r .1)
       (lt→ltb (r .0) n (omega (arith, r .2, items-length (rowFact row) 0 n)))))
     where
-      go : (o : Option ℕ) → least (leads (start w t) (next w) S (fact 0 0 0) (suc k) (at j)) 0 (length S) ≡ o → Answer (leads (start w t) (next w) S (fact 0 0 0) (suc k) (at j)) 0 (length S) o
-          → T (ltb (placeOr n o) n) → T (arrives (start w t) (next w) S (suc (suc k)) (at j))
+      go : (o : Option ℕ) → least (leads (startFor w t) (next w) S (fact 0 0 0) (suc k) (at j)) 0 (length S) ≡ o → Answer (leads (startFor w t) (next w) S (fact 0 0 0) (suc k) (at j)) 0 (length S) o
+          → T (ltb (placeOr n o) n) → T (arrives (startFor w t) (next w) S (suc (suc k)) (at j))
       go none z a x = let y = ltb-yes {a = n} {b = n} x in absurd (omega arith)
       go (some i) z a x =
           let y = ltb-yes {a = i} {b = n} x in
-          let u = and-yes (arrives (start w t) (next w) S (suc k) (at i)) (next w (at i) (at j)) (a .1) in
+          let u = and-yes (arrives (startFor w t) (next w) S (suc k) (at i)) (next w (at i) (at j)) (a .1) in
           let l : length S ≡ n = items-length (rowFact row) 0 n in
           arrives-is _ _ S (step (arrives-says _ _ S (suc k) (at-place (fact 0 0 0) S i (omega arith)) (u .0)) (at-place (fact 0 0 0) S j (omega arith)) (u .1))
 
-  same-end : (k : ℕ) → f ≡ suc k → least (ending row n w (s .mark) t k) 0 n ≡ least (λ j. arrives (start w t) (next w) S f (at j) && goal t (at j)) 0 (length S)
+  same-end : (k : ℕ) → f ≡ suc k → least (ending row n w (s .mark) t k) 0 n ≡ least (λ j. arrives (startFor w t) (next w) S f (at j) && goalFor t (at j)) 0 (length S)
   same-end k e = rw (items-length (rowFact row) 0 n) (least-same _ _ 0 n (λ j a h. agree j (omega arith)))
     where
-      agree : (j : ℕ) → j < n → ending row n w (s .mark) t k j ≡ (arrives (start w t) (next w) S f (at j) && goal t (at j))
+      agree : (j : ℕ) → j < n → ending row n w (s .mark) t k j ≡ (arrives (startFor w t) (next w) S f (at j) && goalFor t (at j))
       agree j h =
-          by-cases (goal t (rowFact row j))
+          by-cases (goalFor t (rowFact row j))
           (λ y.
-          let g : goal t (at j) ≡ true = rw (at-fact row n j h) y in
+          let g : goalFor t (at j) ≡ true = rw (at-fact row n j h) y in
           let c = comes-is k j e h (T-of _ g) in
-          rw (y, g, c, e) (and-true (arrives (start w t) (next w) S (suc k) (at j))))
-          (λ y. let g : goal t (at j) ≡ false = rw (at-fact row n j h) y in rw (y, g) (and-false (arrives (start w t) (next w) S f (at j))))
+          rw (y, g, c, e) (and-true (arrives (startFor w t) (next w) S (suc k) (at j))))
+          (λ y. let g : goalFor t (at j) ≡ false = rw (at-fact row n j h) y in rw (y, g) (and-false (arrives (startFor w t) (next w) S f (at j))))
 
   -- what is written from the place i on, after j was found, is the chosen path from there on
   module _ (path₀ : List ℕ) where
     pub record Reading (i j : ℕ) (path : List ℕ) : Type 0 where
       pub short : i < f
       pub inside : j < n
-      pub arrives : T (arrives (start w t) (next w) S (suc i) (at j))
+      pub arrives : T (arrives (startFor w t) (next w) S (suc i) (at j))
       pub low : Low (suc i) (at j)
       pub long : length path ≡ length path₀
       pub here : getD path i 0 ≡ j
-      pub whole : back (start w t) (next w) S (fact 0 0 0) (suc i) j ++ drop (suc i) path ≡ over (chosenBy S t w f) path₀
+      pub whole : back (startFor w t) (next w) S (fact 0 0 0) (suc i) j ++ drop (suc i) path ≡ over (chosenBy S t w f) path₀
 
     pub reading-begin : (k j : ℕ) → f ≡ suc k → f ≤ length path₀ → j ≡ placeOr n (least (ending row n w (s .mark) t k) 0 n) → Reading k j (set path₀ k j)
     unfolding chosenBy
     reading-begin k j e room found =
-        let r = from-some (start w t) (next w) S (fact 0 0 0) (goal t) f (m .path) (m .ends) in
+        let r = from-some (startFor w t) (next w) S (fact 0 0 0) (goalFor t) f (m .path) (m .ends) in
         let i : ℕ = r .0 in
         let z : j ≡ i = found ∙ ap (placeOr n) (same-end k e ∙ r .1) in
-        let c = from-is (start w t) (next w) S (fact 0 0 0) (goal t) f i (r .1) in
+        let c = from-is (startFor w t) (next w) S (fact 0 0 0) (goalFor t) f i (r .1) in
         let l = by-read S t w f (m .path) (m .ends) .1 .long in
         rw z record {
           short = omega arith;
           inside = omega (arith, r .2, items-length (rowFact row) 0 n);
-          arrives = subst (λ (y : ℕ). T (arrives (start w t) (next w) S y (at i))) e (r .3);
+          arrives = subst (λ (y : ℕ). T (arrives (startFor w t) (next w) S y (at i))) e (r .3);
           low = λ b p. omega (arith, m .lowest (at i) b p (r .4));
           long = length-set path₀ k i;
           here = getD-set-same path₀ k i 0 (omega arith);
-          whole = ap (λ (y : ℕ). back (start w t) (next w) S (fact 0 0 0) y i ++ drop y (set path₀ k i)) (sym e)
-              ∙ ap (λ (y : List ℕ). back (start w t) (next w) S (fact 0 0 0) f i ++ y) (drop-set-lt f path₀ k i (omega arith)) ∙ rw (l, c) refl;
+          whole = ap (λ (y : ℕ). back (startFor w t) (next w) S (fact 0 0 0) y i ++ drop y (set path₀ k i)) (sym e)
+              ∙ ap (λ (y : List ℕ). back (startFor w t) (next w) S (fact 0 0 0) f i ++ y) (drop-set-lt f path₀ k i (omega arith)) ∙ rw (l, c) refl;
         }
 
     step-back : (k j j′ : ℕ) (path : List ℕ) → f ≤ length path₀ → Reading (suc k) j path → j′ ≡ beforeOf row n w (s .mark) (suc k) (rowFact row j) → Reading k j′ (set path k j′)
@@ -204,7 +204,7 @@ module _ (row : List ℕ) (n w : ℕ) (t : Fact) (f : ℕ) (s : State) (m : Met 
           low = b .low;
           long = length-set path k (r .0) ∙ d .long;
           here = getD-set-same path k (r .0) 0 (omega (arith, d .short, d .long));
-          whole = rw u (sym (append-assoc (back (start w t) (next w) S (fact 0 0 0) (suc k) (r .0)) (j ∷ []) (drop (suc (suc k)) path)) ∙ ap (λ (y : List ℕ). y ++ drop (suc (suc k)) path)
+          whole = rw u (sym (append-assoc (back (startFor w t) (next w) S (fact 0 0 0) (suc k) (r .0)) (j ∷ []) (drop (suc (suc k)) path)) ∙ ap (λ (y : List ℕ). y ++ drop (suc (suc k)) path)
               (sym (b .back)) ∙ d .whole);
         }
 
@@ -216,7 +216,7 @@ module _ (row : List ℕ) (n w : ℕ) (t : Fact) (f : ℕ) (s : State) (m : Met 
     reading-end i j path e room d =
         let d′ : Reading 0 j path = subst (λ (y : ℕ). Reading y j path) e d in
         drop-cons path 0 0 (omega (arith, d′ .short, d′ .long)) ∙ ap (λ (y : ℕ). y ∷ drop 1 path) (d′ .here)
-        ∙ ap (λ (y : List ℕ). y ++ drop 1 path) (sym (back-one (start w t) (next w) S (fact 0 0 0) j)) ∙ d′ .whole
+        ∙ ap (λ (y : List ℕ). y ++ drop 1 path) (sym (back-one (startFor w t) (next w) S (fact 0 0 0) j)) ∙ d′ .whole
 
   -- the same over the list in which the first place has been written
   pub over-set : (path₀ : List ℕ) (k v : ℕ) → k < f → over (chosenBy S t w f) (set path₀ k v) ≡ over (chosenBy S t w f) path₀

@@ -4,6 +4,7 @@ pub mod Marks
 pub mod Passes
 pub mod Steps
 pub mod Back
+pub mod ByRules
 pub mod Ways
 pub mod Whole
 pub mod Moved

@@ -8,7 +8,7 @@ use lib.ListN.{set}
 use lib.Dec.{T}
 use Rattle.facts.specs.declared.Fact.{Fact}
 use Rattle.rules.specs.Graph.{Path, first, step}
-use Rattle.rules.specs.Paths.{start, next, goal}
+use Rattle.rules.specs.Paths.{startFor, next, goalFor}
 use Rattle.rules.proofs.Graph.{end-in}
 use Rattle.rules.proofs.Printed.{path-pos}
 use Rattle.question.specs.declared.State.{State}
@@ -44,7 +44,7 @@ module _ (row : List ℕ) (n w : ℕ) (t : Fact) where
 
   -- a place that is no goal is marked in its round
   pub push-round : (s : State) (j k from end : ℕ) → n ≤ 1024 → Round row n w t k from end s → from ≤ end → end ≤ s .to → j < n → markAt s j ≡ 0
-      → Way row n w t j (suc k) → (T (goal t (rowFact row j)) → ⊥) → Round row n w t k from end (pushed s j (suc k))
+      → Way row n w t j (suc k) → (T (goalFor t (rowFact row j)) → ⊥) → Round row n w t k from end (pushed s j (suc k))
   push-round s j k from end few r a b h z c g =
       let o = r .ordered in
       let s′ : State = pushed s j (suc k) in
@@ -56,7 +56,7 @@ module _ (row : List ℕ) (n w : ℕ) (t : Fact) where
         front = λ q l m. mark q (omega arith) ∙ r .front q l m;
         behind = λ q l m. equal-or q (s .to) (λ e. subst (λ (y : ℕ). markAt s′ (placeAt s′ y) ≡ suc k) (sym e) (mark-at-end n s j few o h z (suc k)))
             (λ e. let d : q < s .to = omega (arith, e) in mark q d ∙ r .behind q l d);
-        plain = λ i l. equal-or i j (λ e x. g (subst (λ (y : ℕ). T (goal t (rowFact row y))) e x)) (λ e. r .plain i (omega (arith, old-mark s j (suc k) i e)));
+        plain = λ i l. equal-or i j (λ e x. g (subst (λ (y : ℕ). T (goalFor t (rowFact row y))) e x)) (λ e. r .plain i (omega (arith, old-mark s j (suc k) i e)));
         reached = λ i l m p q. push-reached s j k few o h z i (r .reached i l m p q);
       }
 
@@ -66,7 +66,7 @@ module _ (row : List ℕ) (n w : ℕ) (t : Fact) where
 
   -- a place that is a goal ends the search; what has been passed before led to none
   pub push-met : (s : State) (j k from end x : ℕ) → n ≤ 1024 → Round row n w t k from end s → j < n → markAt s j ≡ 0
-      → Way row n w t j (suc k) → T (goal t (rowFact row j)) → x ≤ s .to → Passed s from x
+      → Way row n w t j (suc k) → T (goalFor t (rowFact row j)) → x ≤ s .to → Passed s from x
       → Met row n w t (suc k) (record { mark = set (s .mark) j (suc k); queue = set (s .queue) (s .to) j; from = x; to = s .to + 1 })
   push-met s j k from end x few r h z c g in-queue pass = record {
     ordered =
@@ -78,8 +78,8 @@ module _ (row : List ℕ) (n w : ℕ) (t : Fact) where
     path = c;
     ends = g;
     lowest = λ a m p x. most-or m k (λ l. let d = place-of row n (end-in p) in
-        let u = r .reached (d .0) (d .1) m (subst (λ (y : Fact). Path (start w t) (next w) (factsOf row n) y m) (sym (d .2)) p) l in
-        absurd (r .plain (d .0) (u .0) (subst (λ (y : Fact). T (goal t y)) (sym (d .2)) x))) (λ l. l);
+        let u = r .reached (d .0) (d .1) m (subst (λ (y : Fact). Path (startFor w t) (next w) (factsOf row n) y m) (sym (d .2)) p) l in
+        absurd (r .plain (d .0) (u .0) (subst (λ (y : Fact). T (goalFor t y)) (sym (d .2)) x))) (λ l. l);
     early = λ m e q l u b i y. most-or from q
         (λ a. r .plain b (pass q a l b i (subst (λ (v : ℕ). T (next w (rowFact row v) (rowFact row b))) (old-place s j (suc k) q (omega arith)) y)))
         (λ a. absurd (omega (arith, r .before q a, kept n s j few (r .ordered) h z (suc k) q (omega arith), u)));
@@ -95,7 +95,7 @@ module _ (row : List ℕ) (n w : ℕ) (t : Fact) where
       (λ a. most-or end (d .0) (λ b. absurd (omega (arith, x, r .behind (d .0) b (d .1)))) (λ b. (d .0, a, b, d .2)))
       (λ a. absurd (omega (arith, x, r .before (d .0) a)))
 
-  module _ (s : State) (k from end : ℕ) (r : Round row n w t k from end s) (begun : (j : ℕ) → j < n → T (start w t (rowFact row j)) → 0 < markAt s j) where
+  module _ (s : State) (k from end : ℕ) (r : Round row n w t k from end s) (begun : (j : ℕ) → j < n → T (startFor w t (rowFact row j)) → 0 < markAt s j) where
     -- a place that follows a marked one is marked, where that is not of the last round, or has been passed
     follow : (i j : ℕ) → i < n → j < n → 0 < markAt s i → markAt s i ≤ k → Passed s from end → T (next w (rowFact row i) (rowFact row j)) → 0 < markAt s j
     follow i j h l m b pass x = equal-or (markAt s i) k
@@ -103,11 +103,11 @@ module _ (row : List ℕ) (n w : ℕ) (t : Fact) where
         (λ e.
         r .reached j l (suc (markAt s i)) (step (r .sound i m .1) (fact-in row j l) x) (omega (arith, e)) .0)
 
-    marked-by : {b : Fact} {m : ℕ} → Path (start w t) (next w) (factsOf row n) b m → Passed s from end → (j : ℕ) → j < n → rowFact row j ≡ b → m ≤ suc k → 0 < markAt s j
-    marked-by (first i x) pass j l e u = begun j l (subst (λ (y : Fact). T (start w t y)) (sym e) x)
+    marked-by : {b : Fact} {m : ℕ} → Path (startFor w t) (next w) (factsOf row n) b m → Passed s from end → (j : ℕ) → j < n → rowFact row j ≡ b → m ≤ suc k → 0 < markAt s j
+    marked-by (first i x) pass j l e u = begun j l (subst (λ (y : Fact). T (startFor w t y)) (sym e) x)
     marked-by (step {a} {k = m} p i x) pass j l e u =
         let d = place-of row n (end-in p) in
-        let v = r .reached (d .0) (d .1) m (subst (λ (y : Fact). Path (start w t) (next w) (factsOf row n) y m) (sym (d .2)) p) (omega arith) in
+        let v = r .reached (d .0) (d .1) m (subst (λ (y : Fact). Path (startFor w t) (next w) (factsOf row n) y m) (sym (d .2)) p) (omega arith) in
         follow (d .0) j (d .1) l (v .0) (omega (arith, v .1)) pass (rw (d .2, e) x)
 
     -- the next round begins where all of a frontier has been passed
@@ -123,8 +123,8 @@ module _ (row : List ℕ) (n w : ℕ) (t : Fact) where
     }
 
     -- where the frontier is empty, no path leads to an unmarked place, so none to a goal
-    found : {b : Fact} {m : ℕ} → Path (start w t) (next w) (factsOf row n) b m → from ≡ s .to → end ≡ s .to → (j : ℕ) → j < n → rowFact row j ≡ b → 0 < markAt s j
-    found (first i x) a c j l e = begun j l (subst (λ (y : Fact). T (start w t y)) (sym e) x)
+    found : {b : Fact} {m : ℕ} → Path (startFor w t) (next w) (factsOf row n) b m → from ≡ s .to → end ≡ s .to → (j : ℕ) → j < n → rowFact row j ≡ b → 0 < markAt s j
+    found (first i x) a c j l e = begun j l (subst (λ (y : Fact). T (startFor w t y)) (sym e) x)
     found (step {a = b} p i x) a c j l e =
         let d = place-of row n (end-in p) in
         let v = found p a c (d .0) (d .1) (d .2) in
@@ -135,7 +135,7 @@ module _ (row : List ℕ) (n w : ℕ) (t : Fact) where
     pub nowhere : from ≡ s .to → end ≡ s .to → Nowhere row n w t
     nowhere a c b m p g =
         let d = place-of row n (end-in p) in
-        r .plain (d .0) (found p a c (d .0) (d .1) (d .2)) (subst (λ (y : Fact). T (goal t y)) (sym (d .2)) g)
+        r .plain (d .0) (found p a c (d .0) (d .1) (d .2)) (subst (λ (y : Fact). T (goalFor t y)) (sym (d .2)) g)
 
   -- nothing is marked before the first round
   pub round-zero : Round row n w t 0 0 0 empty
@@ -150,7 +150,7 @@ module _ (row : List ℕ) (n w : ℕ) (t : Fact) where
   }
 
   -- from the second round on, the starts are marked
-  pub starts-marked : {s : State} {k from end : ℕ} → Round row n w t k from end s → 1 ≤ k → (j : ℕ) → j < n → T (start w t (rowFact row j)) → 0 < markAt s j
+  pub starts-marked : {s : State} {k from end : ℕ} → Round row n w t k from end s → 1 ≤ k → (j : ℕ) → j < n → T (startFor w t (rowFact row j)) → 0 < markAt s j
   starts-marked r h j l x = r .reached j l 1 (first (fact-in row j l) x) h .0
 
 -- ---- the first round
@@ -160,14 +160,14 @@ module _ (row : List ℕ) (n w : ℕ) (t : Fact) where
   pub record Seeding (j : ℕ) (s : State) : Type 0 where
     pub round : Round row n w t 0 0 0 s
     pub from : s .from ≡ 0
-    pub begun : (i : ℕ) → i < j → T (start w t (rowFact row i)) → 0 < markAt s i
+    pub begun : (i : ℕ) → i < j → T (startFor w t (rowFact row i)) → 0 < markAt s i
     pub clear : (i : ℕ) → j ≤ i → markAt s i ≡ 0
 
   -- no start stands below j
-  pub seeding-begin : (j : ℕ) → ((i : ℕ) → i < j → T (start w t (rowFact row i)) → ⊥) → Seeding j empty
+  pub seeding-begin : (j : ℕ) → ((i : ℕ) → i < j → T (startFor w t (rowFact row i)) → ⊥) → Seeding j empty
   seeding-begin j out = record { round = round-zero row n w t; from = refl; begun = λ i l y. absurd (out i l y); clear = λ i l. unmarked i }
 
-  pub seeding-push : (j : ℕ) (s : State) → n ≤ 1024 → Seeding j s → j < n → T (start w t (rowFact row j)) → (T (goal t (rowFact row j)) → ⊥) → Seeding (j + 1) (pushed s j 1)
+  pub seeding-push : (j : ℕ) (s : State) → n ≤ 1024 → Seeding j s → j < n → T (startFor w t (rowFact row j)) → (T (goalFor t (rowFact row j)) → ⊥) → Seeding (j + 1) (pushed s j 1)
   seeding-push j s few d h x g =
       let z = d .clear j (omega arith) in
       let o = d .round .ordered in
@@ -179,18 +179,18 @@ module _ (row : List ℕ) (n w : ℕ) (t : Fact) where
         clear = λ i l. old-mark s j 1 i (λ e. omega (arith, e)) ∙ d .clear i (omega arith);
       }
 
-  pub seeding-skip : (j : ℕ) (s : State) → Seeding j s → (T (start w t (rowFact row j)) → ⊥) → Seeding (j + 1) s
+  pub seeding-skip : (j : ℕ) (s : State) → Seeding j s → (T (startFor w t (rowFact row j)) → ⊥) → Seeding (j + 1) s
   seeding-skip j s d g = record {
     round = d .round;
     from = d .from;
-    begun = λ i l y. equal-or i j (λ e. absurd (g (subst (λ (v : ℕ). T (start w t (rowFact row v))) e y))) (λ e. d .begun i (omega (arith, e)) y);
+    begun = λ i l y. equal-or i j (λ e. absurd (g (subst (λ (v : ℕ). T (startFor w t (rowFact row v))) e y))) (λ e. d .begun i (omega (arith, e)) y);
     clear = λ i l. d .clear i (omega arith);
   }
 
-  pub seeding-met : (j : ℕ) (s : State) → n ≤ 1024 → Seeding j s → j < n → T (start w t (rowFact row j)) → T (goal t (rowFact row j)) → Met row n w t 1 (pushed s j 1)
+  pub seeding-met : (j : ℕ) (s : State) → n ≤ 1024 → Seeding j s → j < n → T (startFor w t (rowFact row j)) → T (goalFor t (rowFact row j)) → Met row n w t 1 (pushed s j 1)
   seeding-met j s few d h x g =
       push-met row n w t s j 0 0 0 (s .from) few (d .round) h (d .clear j (omega arith)) (first (fact-in row j h) x) g (omega (arith, d .from)) (λ p a b. absurd (omega (arith, d .from)))
 
   -- no start stands from j on
-  pub seeding-end : (s : State) (j : ℕ) → ((i : ℕ) → i < n → T (start w t (rowFact row i)) → i < j) → Seeding j s → Round row n w t 1 0 (s .to) s
+  pub seeding-end : (s : State) (j : ℕ) → ((i : ℕ) → i < n → T (startFor w t (rowFact row i)) → i < j) → Seeding j s → Round row n w t 1 0 (s .to) s
   seeding-end s j all d = end-round row n w t s 0 0 0 (d .round) (λ i l y. d .begun i (all i l y) y) (omega arith) (omega arith) (λ p a b. absurd (omega arith)) (s .from)

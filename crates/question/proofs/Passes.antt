@@ -9,7 +9,7 @@ use lib.ListN.{set}
 use lib.Dec.{T}
 use Rattle.facts.specs.declared.Fact.{Fact}
 use Rattle.rules.specs.Graph.{step}
-use Rattle.rules.specs.Paths.{next, goal}
+use Rattle.rules.specs.Paths.{next, goalFor}
 use Rattle.question.specs.declared.State.{State}
 use Rattle.table.specs.Tables.{rowFact}
 use Rattle.question.specs.Row.{Rising}
@@ -68,7 +68,7 @@ module _ (row : List ℕ) (n w : ℕ) (t : Fact) where
         step (subst (Way row n w t i) e (m .round .sound i l .1)) (fact-in row j h) x
 
     -- a place that follows and is no goal is marked and queued
-    inner-push′ : (T (goal t (rowFact row j)) → ⊥) → Inner k from end q i lo (j + 1) (pushed s j (suc k))
+    inner-push′ : (T (goalFor t (rowFact row j)) → ⊥) → Inner k from end q i lo (j + 1) (pushed s j (suc k))
     inner-push′ g =
         let m = d .middle in
         let o = m .round .ordered in
@@ -91,11 +91,11 @@ module _ (row : List ℕ) (n w : ℕ) (t : Fact) where
     pub inner-stays : (b : ℕ) → 0 < markAt s b → 0 < markAt (pushed s j (k + 1)) b
     inner-stays b l = stays n s j few (d .middle .round .ordered) h z (k + 1) b l
 
-    pub inner-push : (T (goal t (rowFact row j)) → ⊥) → Inner k from end q i lo (j + 1) (pushed s j (k + 1))
+    pub inner-push : (T (goalFor t (rowFact row j)) → ⊥) → Inner k from end q i lo (j + 1) (pushed s j (k + 1))
     inner-push g = subst (λ (m : ℕ). Inner k from end q i lo (j + 1) (pushed s j m)) (sym (add-one k)) (inner-push′ g)
 
     -- and one that is a goal ends the search at the place q of the queue
-    pub inner-met : T (goal t (rowFact row j)) → Met row n w t (suc k) (record { mark = set (s .mark) j (k + 1); queue = set (s .queue) (s .to) j; from = q; to = s .to + 1 })
+    pub inner-met : T (goalFor t (rowFact row j)) → Met row n w t (suc k) (record { mark = set (s .mark) j (k + 1); queue = set (s .queue) (s .to) j; from = q; to = s .to + 1 })
     inner-met g =
         let m = d .middle in
         subst (λ (y : ℕ). Met row n w t (suc k) (record { mark = set (s .mark) j y; queue = set (s .queue) (s .to) j; from = q; to = s .to + 1 })) (sym (add-one k))

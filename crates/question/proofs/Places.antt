@@ -16,11 +16,13 @@ use Rattle.columns.proofs.Lists.{items-length, items-listed}
 use Rattle.facts.specs.declared.Fact.{Fact}
 use Rattle.facts.specs.declared.Answer.the-variants.{Yes, No, Long}
 use Rattle.facts.specs.Terms.{sp}
+use Rattle.facts.specs.Gaps.{fillingOf}
 use Rattle.facts.proofs.Terms.{by-cases}
 use Rattle.table.specs.Tables.{rowFact}
 use Rattle.rules.specs.Graph.{_∈_}
+use Rattle.rules.specs.declared.Line.{Line}
 use Rattle.rules.specs.Paths.{named, fewest}
-use Rattle.rules.specs.Printed.{printed, printOrder}
+use Rattle.rules.specs.Printed.{printed, printOrder, conclusion}
 use Rattle.derivation.specs.Bytes.{derivationBytes}
 use Rattle.rules.specs.Chosen.{chosen, factIn, placeBehind, printPlaces}
 use Rattle.rules.proofs.Graph.{at-place}
@@ -31,7 +33,7 @@ use Rattle.question.specs.declared.Found.the-variants.{Nothing, Facts}
 use Rattle.question.specs.Row.{factsOf}
 use Rattle.question.specs.Answer.{foundOf, placesOf, Finds}
 use Rattle.question.specs.Order.{Placed, InPrint, factsAt}
-use Rattle.question.specs.Question.{answerBy, answerOf, written, printedOf, printedFor}
+use Rattle.question.specs.Question.{answerBy, answerOf, derivationOf, derivationFor, fillingFor, written, printedFor}
 use Rattle.question.proofs.Back.{at-fact}
 
 -- ---- the same places, in printed order
@@ -66,6 +68,11 @@ module _ (at : ℕ → Fact) where
 map-same : {p q : ℕ → Fact} (l : List ℕ) → ((i : ℕ) → i ∈ l → p i ≡ q i) → map p l ≡ map q l
 map-same [] h = refl
 map-same (x ∷ xs) h = rw (h x (List·Memᴰ·head refl), map-same xs (λ i m. h i (List·Memᴰ·tail m))) refl
+
+-- a yes by its count
+by-yes : (limit f x : ℕ) {o : Option ℕ} → o ≡ some f → f ≤ limit → answerBy limit o x ≡ Yes f x
+unfolding answerBy
+by-yes limit f x e h = rw (e, le-leb f limit h)
 
 -- ---- an answer with f facts
 
@@ -142,10 +149,25 @@ module _ (row : List ℕ) (n : ℕ) (t : Fact) (before after : List ℕ) {r : Fo
   unfolding answerOf answerBy written
   settle-long limit output h = (rw (found-fewest, lt-leb f limit h), refl)
 
-  pub settle-yes : (limit : ℕ) (entry exit after′ : List ℕ) → f ≤ limit → 3 * n ≤ length row → InPrint row f after after′ → exit ≡ over (derivationBytes (printed (factsAt row after′ f))) entry
-      → (Yes f ≡ answerOf (factsOf row n) t limit) × (exit ≡ written (Yes f) (printedFor (factsOf row n) t) entry)
-  unfolding answerOf answerBy written printedFor printedOf
-  settle-yes limit entry exit after′ h whole p e = (rw (found-fewest, le-leb f limit h), e ∙ rw (print-facts whole after′ p, found-chosen .chosen))
+  -- the derivation is that of the facts at the places
+  found-derivation : (after′ : List ℕ) → 3 * n ≤ length row → InPrint row f after after′ → printed (factsAt row after′ f) ≡ derivationFor (factsOf row n) t
+  unfolding derivationFor derivationOf
+  found-derivation after′ whole p = rw (print-facts whole after′ p, found-chosen .chosen)
+
+  -- and so is the term named
+  found-filling : (after′ : List ℕ) (x : ℕ) → 3 * n ≤ length row → InPrint row f after after′ → x ≡ fillingOf t (conclusion (printed (factsAt row after′ f)))
+      → x ≡ fillingFor (factsOf row n) t
+  unfolding fillingFor
+  found-filling after′ x whole p e = e ∙ ap (λ (l : List Line). fillingOf t (conclusion l)) (found-derivation after′ whole p)
+
+  pub settle-yes : (limit : ℕ) (entry exit after′ : List ℕ) (x : ℕ) → f ≤ limit → 3 * n ≤ length row → InPrint row f after after′
+      → x ≡ fillingOf t (conclusion (printed (factsAt row after′ f))) → exit ≡ over (derivationBytes (printed (factsAt row after′ f))) entry
+      → (Yes f x ≡ answerOf (factsOf row n) t limit) × (exit ≡ written (Yes f x) (printedFor (factsOf row n) t) entry)
+  unfolding answerOf written printedFor
+  settle-yes limit entry exit after′ x h whole p e g = (
+    ap (Yes f) (found-filling after′ x whole p e) ∙ sym (by-yes limit f (fillingFor (factsOf row n) t) found-fewest h),
+    g ∙ ap (λ (l : List Line). over (derivationBytes l) entry) (found-derivation after′ whole p),
+  )
 
 pub settle-no : (row : List ℕ) (n : ℕ) (t : Fact) (before after : List ℕ) {r : Found} → r ≡ Nothing → Finds row n t before after r → (limit : ℕ) (output : List ℕ)
     → (No ≡ answerOf (factsOf row n) t limit) × (output ≡ written No (printedFor (factsOf row n) t) output)

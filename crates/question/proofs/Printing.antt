@@ -20,7 +20,7 @@ use Rattle.table.proofs.Tables.{row-below}
 use Rattle.rules.specs.declared.Line.{Line}
 use Rattle.rules.specs.Derivations.{derivationLine}
 use Rattle.rules.specs.Paths.{named}
-use Rattle.rules.specs.Printed.{join, joinAll, printed}
+use Rattle.rules.specs.Printed.{join, joinAll, printed, conclusion}
 use Rattle.derivation.specs.Bytes.{lineNumbers, lineBytes, derivationBytes}
 use Rattle.derivation.proofs.Bytes.{derivation-length}
 use Rattle.question.specs.Order.{Printing}
@@ -87,6 +87,17 @@ printed-more d (g ∷ fs) f h =
       r .1 ∙ ap (λ (y : ℕ). join (resultOf g 1 fs) y f .fact) e,
     )
 
+-- the result is the fact on the last line
+ends-in : (l : Line) (c : Fact) (i : ℕ) (fs : List Fact) → l .fact ≡ c → conclusion (l ∷ joinAll c i fs) ≡ resultOf c i fs
+unfolding conclusion joinAll resultOf
+ends-in l c i [] e = e
+ends-in l c i (f ∷ fs) e = ends-in (join c i f) (join c i f .fact) (suc (suc i)) fs refl
+
+result-ends : (d : Fact) (fs : List Fact) → 0 < length fs → conclusion (printed fs) ≡ result d fs
+unfolding printed result
+result-ends d [] h = absurd (omega arith)
+result-ends d (f ∷ fs) h = ends-in (derivationLine 0 0 0 f) f 1 fs refl
+
 -- ---- numbers
 
 -- the terms of a fact to print have at most five digits
@@ -125,6 +136,9 @@ module _ (at : ℕ → Fact) where
   pub result-first : resultAt 1 ≡ at 0
   unfolding result resultOf itemsFrom
   result-first = refl
+
+  pub result-last : (k : ℕ) → 0 < k → conclusion (printed (itemsFrom at 0 k)) ≡ resultAt k
+  result-last k h = result-ends (at 0) (itemsFrom at 0 k) (omega (arith, items-length at 0 k))
 
   pub bytes-more : (k : ℕ) → 0 < k → (bytesOf (k + 1) ≡ bytesOf k ++ derivationBytes (derivationLine 0 0 0 (at k) ∷ join (resultAt k) (2 * k - 1) (at k) ∷ []))
       × (resultAt (k + 1) ≡ join (resultAt k) (2 * k - 1) (at k) .fact)

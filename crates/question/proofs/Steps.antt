@@ -14,7 +14,7 @@ use borrow.Author.Tests.{ne-eqb}
 use Rattle.facts.specs.declared.Fact.{Fact}
 use Rattle.table.specs.Tables.{rowFact}
 use Rattle.rules.specs.Graph.{least}
-use Rattle.rules.specs.Paths.{next, goal}
+use Rattle.rules.specs.Paths.{next, goalFor}
 use Rattle.rules.proofs.Graph.{Answer, least-answer}
 use Rattle.rules.proofs.Chosen.{least-below, least-some}
 use Rattle.question.specs.declared.State.{State}
@@ -121,7 +121,7 @@ module _ (row : List ℕ) (n w : ℕ) (mark queue : List ℕ) (m : ℕ) where
 
     -- a goal does not come before `best`
     abbrev pub NotBelow : ℕ → ℕ → Type 0
-    NotBelow best b = T (goal t (rowFact row b)) → best ≤ b
+    NotBelow best b = T (goalFor t (rowFact row b)) → best ≤ b
 
     -- of the goals that may follow the places queued before q and marked m, `best` is the first
     pub record Ending (best : ℕ) (done : List ℕ) (q : ℕ) : Type 0 where
@@ -149,10 +149,10 @@ module _ (row : List ℕ) (n w : ℕ) (mark queue : List ℕ) (m : ℕ) where
         let here = part-passed row n w (NotBelow r) i hi rows found (λ b l u y g. first .low b l u y g) note (omega arith) in
         record {
           is = ⊎-elim (λ (x : r ≡ best). rw x (d .is))
-              (λ (x : (r < hi) × T (next w (rowFact row i) (rowFact row r)) × T (goal t (rowFact row r))).
+              (λ (x : (r < hi) × T (next w (rowFact row i) (rowFact row r)) × T (goalFor t (rowFact row r))).
               inr (
                 omega (arith, x .0, part-within (rows .few) found .0),
-                yes-and (goal t (rowFact row r)) (comesBy row n w mark t m (rowFact row r)) (x .2)
+                yes-and (goalFor t (rowFact row r)) (comesBy row n w mark t m (rowFact row r)) (x .2)
                     (comes-is (rowFact row r) i pos inside (yes-and (eqb (getD mark i 0) m) (next w (rowFact row i) (rowFact row r)) (yes-eqb {a = getD mark i 0} {b = m} e) (x .1))),
               )) (first .is);
           passed = λ p l f. equal-or p q (λ g. rw g here) (λ g b u y. lower b (d .passed p (omega (arith, g)) f b u y));
@@ -161,7 +161,7 @@ module _ (row : List ℕ) (n w : ℕ) (mark queue : List ℕ) (m : ℕ) where
 
     pub ending-end : (top best : ℕ) (done : List ℕ) (q : ℕ) → Stepping row n mark queue m top → Ending best done q → top ≤ q → best ≡ placeOr n (least (ending row n w mark t m) 0 n)
     ending-end top best done q s d l = least-is (ending row n w mark t m) n best (d .is) (λ j h x.
-        let u = and-yes (goal t (rowFact row j)) (comesBy row n w mark t m (rowFact row j)) x in
+        let u = and-yes (goalFor t (rowFact row j)) (comesBy row n w mark t m (rowFact row j)) x in
         let c = comes-says (rowFact row j) (s .some) (u .1) in
         let v = and-yes (eqb (getD mark (c .0) 0) m) (next w (rowFact row (c .0)) (rowFact row j)) (c .2) in
         let e = eqb-yes {a = getD mark (c .0) 0} {b = m} (v .0) in

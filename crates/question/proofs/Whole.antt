@@ -14,7 +14,7 @@ use Rattle.facts.specs.declared.Fact.{Fact}
 use Rattle.facts.specs.Terms.{dom, range}
 use Rattle.rules.specs.Steps.{same}
 use Rattle.rules.specs.Graph.{_∈_, Path, least}
-use Rattle.rules.specs.Paths.{start, next, goal, ways, HasPath, fewest}
+use Rattle.rules.specs.Paths.{startFor, next, goalFor, ways, HasFilling, fewest}
 use Rattle.rules.specs.Chosen.{wayOf, chosenBy, chosen}
 use Rattle.rules.proofs.Graph.{short}
 use Rattle.rules.proofs.Steps.{same-eq, same-self}
@@ -59,12 +59,12 @@ module _ (row : List ℕ) (n : ℕ) (t : Fact) where
   -- a search meets a goal after at most n facts
   pub met-few : {w f : ℕ} {s : State} → Met row n w t f s → f ≤ n
   met-few {w} m =
-      let r = short (start w t) (next w) same same-eq same-self (m .path) in
+      let r = short (startFor w t) (next w) same same-eq same-self (m .path) in
       omega (arith, m .lowest _ (r .0) (r .2) (m .ends), r .1, items-length (rowFact row) 0 n)
 
   -- no path for t by w has fewer than f facts
   abbrev Bound : ℕ → ℕ → Type 0
-  Bound f w = (a : Fact) (m : ℕ) → Path (start w t) (next w) (factsOf row n) a m → T (goal t a) → f ≤ m
+  Bound f w = (a : Fact) (m : ℕ) → Path (startFor w t) (next w) (factsOf row n) a m → T (goalFor t a) → f ≤ m
 
   -- where no way leads to t, there is no path
   answers-none : (places : List ℕ) → ((w : ℕ) → w ∈ ways t → Nowhere row n w t) → Finds row n t places places Nothing
@@ -78,7 +78,7 @@ module _ (row : List ℕ) (n : ℕ) (t : Fact) where
       → ((v : ℕ) → v ∈ ways t → Bound f v) → Finds row n t places after (Facts f)
   unfolding chosen
   answers-some w f places after a d z k low =
-      let h : HasPath (factsOf row n) t = record { way = w; asked = a; end = d .end; count = f; path = d .path; goal = d .ends } in
+      let h : HasFilling (factsOf row n) t = record { way = w; asked = a; end = d .end; count = f; path = d .path; goal = d .ends } in
       let e : fewest (factsOf row n) t ≡ some f = fewest-is (factsOf row n) t (some f) ((h, refl), λ g. low (g .way) (g .asked) (g .end) (g .count) (g .path) (g .goal)) in
       let l : length (chosenBy (factsOf row n) t w f) ≡ f = by-read (factsOf row n) t w f (d .path) (d .ends) .1 .long in
       record { result = rw (e, z, l) refl; places = rw (e, z) k }

@@ -1,5 +1,5 @@
--- The question (document 01, "The question" and the order of refusals): its answer for every input, and the output afterwards. The
--- limit is document 01's allowance, the output its paper.
+-- The question (document 01, "The question" and the order of refusals; document 02, Point 1: a gap): its answer for every input, and
+-- the output afterwards. The limit is document 01's allowance, the output its paper.
 -- Assumes nothing.
 use mathlib.Core.Path.{_≡_}
 use mathlib.Core.Logic.{_⊎_}
@@ -18,25 +18,22 @@ use Rattle.facts.specs.declared.Verdict.the-variants.{Sound, Faulty}
 use Rattle.facts.specs.declared.Answer.{Answer}
 use Rattle.facts.specs.declared.Answer.the-variants.{Done, Yes, No, Long, Accepted, Refused}
 use Rattle.facts.specs.declared.Code.{Code}
-use Rattle.facts.specs.Facts.{wellFormed, faultOf, orElse}
+use Rattle.facts.specs.Facts.{wellFormed, orElse}
+use Rattle.facts.specs.Gaps.{Askable, questionFault, fillingOf, filledBy}
 use Rattle.facts.specs.Answers.{SaysFollows, YesWith, LongWith, SaysNo, RefusedWith}
 use Rattle.table.specs.Tables.{Table, TableFacts, accepted, refused, tableBytes, tableOf, allFormed}
 use Rattle.rules.specs.declared.Line.{Line}
 use Rattle.rules.specs.Rules.{Rule}
-use Rattle.rules.specs.Derivations.{Derives, Derivable, Closed, Holds, Least, tableLines}
+use Rattle.rules.specs.Derivations.{Relation, Derives, Derivable, Closed, Holds, tableLines}
+use Rattle.rules.specs.Fillings.{DerivableFilling, LeastFilling}
 use Rattle.rules.specs.Order.{InOrder}
 use Rattle.rules.specs.Paths.{fewest}
-use Rattle.rules.specs.Printed.{printed, printOrder}
+use Rattle.rules.specs.Printed.{printed, printOrder, conclusion}
 use Rattle.rules.specs.Chosen.{chosen, factIn}
 use Rattle.question.specs.Row.{factsOf, Sorted}
 use Rattle.derivation.specs.Bytes.{derivationBytes}
 
 -- ---- the answer
-
--- the first of refusals 3, 4, 5 that the fact of a question earns: the same as in a table
-unfoldable pub questionFault : Fact → Verdict
-unfolding faultOf
-questionFault t = faultOf t
 
 -- the bytes of output that a limit asks for: 31 for each of 2 L - 1 lines, and none for L = 0
 abbrev pub needed : ℕ → ℕ
@@ -47,15 +44,31 @@ unfoldable pub asked : Fact → ℕ → ℕ → Verdict
 unfolding orElse questionFault
 asked t limit size = orElse (questionFault t) (cond (leb limit 1024) (cond (leb (needed limit) size) Sound (Faulty Short)) (Faulty Allowance))
 
--- yes where the fewest table lines are within the limit, and else long; no where there are none
-unfoldable pub answerBy : ℕ → Option ℕ → Answer
-answerBy limit none = No
-answerBy limit (some f) = cond (leb f limit) (Yes f) (Long f)
+-- the derivation for a path's facts, in printed order
+unfoldable pub derivationOf : List Fact → Option (List ℕ) → List Line
+unfolding printed printOrder
+derivationOf facts none = []
+derivationOf facts (some places) = printed (printOrder (map (factIn facts) places))
+
+-- the derivation that is printed for t: that of the chosen path, if there is a path
+unfoldable pub derivationFor : List Fact → Fact → List Line
+unfolding derivationOf chosen
+derivationFor facts t = derivationOf facts (chosen facts t)
+
+-- the term that fills the gap of t: it stands there in what that derivation ends in
+unfoldable pub fillingFor : List Fact → Fact → ℕ
+unfolding fillingOf conclusion derivationFor
+fillingFor facts t = fillingOf t (conclusion (derivationFor facts t))
+
+-- yes where the fewest table lines are within the limit, with the term that fills the gap, and else long; no where there are none
+unfoldable pub answerBy : ℕ → Option ℕ → ℕ → Answer
+answerBy limit none x = No
+answerBy limit (some f) x = cond (leb f limit) (Yes f x) (Long f)
 
 -- the answer from a table's facts: no lent memory matters
 unfoldable pub answerOf : List Fact → Fact → ℕ → Answer
-unfolding answerBy fewest
-answerOf facts t limit = answerBy limit (fewest facts t)
+unfolding answerBy fewest fillingFor
+answerOf facts t limit = answerBy limit (fewest facts t) (fillingFor facts t)
 
 -- an answer, unless something is refused; the place is 0
 unfoldable pub unless : Verdict → Answer → Answer
@@ -75,16 +88,10 @@ questionAnswer table t limit size = answerFrom (tableOf table) t limit size
 
 -- ---- the output
 
--- the bytes of the derivation of a path's facts, in printed order
-unfoldable pub printedOf : List Fact → Option (List ℕ) → List ℕ
-unfolding printed printOrder
-printedOf facts none = []
-printedOf facts (some places) = derivationBytes (printed (printOrder (map (factIn facts) places)))
-
--- the bytes that are printed for t: the derivation of the chosen path, if there is a path
+-- the bytes that are printed for t
 unfoldable pub printedFor : List Fact → Fact → List ℕ
-unfolding printedOf chosen
-printedFor facts t = printedOf facts (chosen facts t)
+unfolding derivationFor
+printedFor facts t = derivationBytes (derivationFor facts t)
 
 -- and from a table
 unfoldable pub printedFrom : Table → Fact → List ℕ
@@ -94,7 +101,7 @@ printedFrom (refused r place) t = []
 
 -- a yes writes over the front of the output; any other answer writes nothing
 unfoldable pub written : Answer → List ℕ → List ℕ → List ℕ
-written (Yes f) bytes old = over bytes old
+written (Yes f x) bytes old = over bytes old
 written No bytes old = old
 written (Long f) bytes old = old
 written (Done n) bytes old = old
@@ -138,21 +145,35 @@ pub record Prints (facts : List Fact) (t : Fact) (f : ℕ) (x : List ℕ) : Type
   pub count : tableLines derivation ≡ f
   pub lines : suc (length derivation) ≡ f + f
 
--- what number, place and count then mean, over a table with these facts
+-- what number, place, count and the term named then mean, over a table with these facts
 pub record Meaning (q : Question) (entry exit : List ℕ) (c : Code) (facts : List Fact) : Type 0 where
-  -- an answer comes: for a well-formed fact, a limit of at most 1,024, and the output that it asks for
-  pub comes : T (wellFormed (q .fact)) → q .limit ≤ 1024 → needed (q .limit) ≤ length entry → ((f : ℕ) × SaysFollows c f) ⊎ SaysNo c
-  -- yes and long carry the fewest table lines of any derivation, and these are at most the table's facts
-  pub least : (f : ℕ) → SaysFollows c f → Least Rule facts (q .fact) f × (f ≤ length facts)
-  -- yes: they are within the limit, and the derivation with the name `printedFor` stands in the front of the output, where what was
-  -- behind it still does
-  pub printed : (f : ℕ) → YesWith c f
-      → (f ≤ q .limit) × (exit ≡ over (printedFor facts (q .fact)) entry) × Prints facts (q .fact) f (printedFor facts (q .fact))
+  -- an answer comes: for what may be asked, a limit of at most 1,024, and the output that it asks for
+  pub comes : Askable (q .fact) → q .limit ≤ 1024 → needed (q .limit) ≤ length entry → ((f : ℕ) × SaysFollows c f) ⊎ SaysNo c
+  -- yes and long carry the fewest table lines of any derivation of any filling, and these are at most the table's facts
+  pub least : (f : ℕ) → SaysFollows c f → ((u : Fact) × LeastFilling Rule facts (q .fact) f u) × (f ≤ length facts)
+  -- yes: the term named fills the gap, and what it fills has so few
+  pub filling : (f x : ℕ) → YesWith c f x → LeastFilling Rule facts (q .fact) f (filledBy (q .fact) x)
+  -- every other answer, and one to a question without a gap, names none
+  pub unnamed : (c .number ≡ 90 → ⊥) ⊎ T (wellFormed (q .fact)) → c .filling ≡ 0
+  -- yes: they are within the limit, and the derivation with the name `printedFor`, which ends in the filled triple, stands in the front of
+  -- the output, where what was behind it still does
+  pub printed : (f x : ℕ) → YesWith c f x
+      → (f ≤ q .limit) × (exit ≡ over (printedFor facts (q .fact)) entry) × Prints facts (filledBy (q .fact) x) f (printedFor facts (q .fact))
   -- long: they are not, and nothing is written
   pub longer : (f : ℕ) → LongWith c f → (q .limit < f) × (exit ≡ entry)
-  -- no: there is no derivation; the facts that have one are a closed set that holds the table and lacks the fact put; nothing is written
-  pub none : SaysNo c → Closed Rule (Derivable Rule facts) × Holds (Derivable Rule facts) facts × (Derivable Rule facts (q .fact) → ⊥) × (exit ≡ entry)
+  -- no: no filling has a derivation; the facts that have one are a closed set that holds the table and lacks every filling; nothing is
+  -- written
+  pub none : SaysNo c → Closed Rule (Derivable Rule facts) × Holds (Derivable Rule facts) facts × (DerivableFilling Rule facts (q .fact) → ⊥) × (exit ≡ entry)
 
 pub record Means (q : Question) (entry exit : List ℕ) (c : Code) : Type 0 where
   pub sound : (facts : List Fact) → TableFacts facts → q .table ≡ tableBytes facts → Meaning q entry exit c facts
   pub refused : (r : Refusal) (place : ℕ) → RefusedWith c r place → exit ≡ entry
+
+-- ---- the answer over any list of rules
+
+-- what number and count answer the question t, by the rules R and with this limit: 90 and 92 with the fewest table lines over every
+-- filling, 91 with 0 where no filling has a derivation
+pub data AnswersBy (R : Relation) (facts : List Fact) (t : Fact) (limit : ℕ) : ℕ → ℕ → Type 0 where
+  yes : {f : ℕ} {u : Fact} → LeastFilling R facts t f u → f ≤ limit → AnswersBy R facts t limit 90 f
+  long : {f : ℕ} {u : Fact} → LeastFilling R facts t f u → limit < f → AnswersBy R facts t limit 92 f
+  no : (DerivableFilling R facts t → ⊥) → AnswersBy R facts t limit 91 0

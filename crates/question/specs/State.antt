@@ -8,7 +8,7 @@ use lib.ListN.{length, getD, replicate}
 use lib.Dec.{T}
 use Rattle.facts.specs.declared.Fact.{Fact}
 use Rattle.rules.specs.Graph.{Path}
-use Rattle.rules.specs.Paths.{link, property, goesOn, start, next, goal}
+use Rattle.rules.specs.Paths.{link, property, goesOn, startFor, next, goalFor}
 use Rattle.question.specs.declared.State.{State}
 use Rattle.question.specs.declared.Reached.{Reached}
 use Rattle.table.specs.Tables.{rowFact}
@@ -40,7 +40,7 @@ pub record Ordered (n : ℕ) (s : State) : Type 0 where
 module _ (row : List ℕ) (n w : ℕ) (t : Fact) where
   -- a path by w over the row's facts that ends in the place i and has m facts
   abbrev pub Way : ℕ → ℕ → Type 0
-  Way i m = Path (start w t) (next w) (factsOf row n) (rowFact row i) m
+  Way i m = Path (startFor w t) (next w) (factsOf row n) (rowFact row i) m
 
   -- a marked place is one of the n, and ends a path of as many facts as the mark says
   abbrev pub MarksPaths : List ℕ → Type 0
@@ -54,13 +54,13 @@ module _ (row : List ℕ) (n w : ℕ) (t : Fact) where
     pub before : (q : ℕ) → q < from → markAt s (placeAt s q) < k
     pub front : (q : ℕ) → from ≤ q → q < end → markAt s (placeAt s q) ≡ k
     pub behind : (q : ℕ) → end ≤ q → q < s .to → markAt s (placeAt s q) ≡ suc k
-    pub plain : (i : ℕ) → 0 < markAt s i → T (goal t (rowFact row i)) → ⊥
+    pub plain : (i : ℕ) → 0 < markAt s i → T (goalFor t (rowFact row i)) → ⊥
     pub reached : (i : ℕ) → i < n → (m : ℕ) → Way i m → m ≤ k → (0 < markAt s i) × (markAt s i ≤ m)
 
   -- no goal may follow a place marked m that is queued before `from`
   abbrev pub Early : List ℕ → List ℕ → ℕ → ℕ → Type 0
   Early mark queue m from =
-      (q : ℕ) → q < from → getD mark (getD queue q 0) 0 ≡ m → (b : ℕ) → b < n → T (next w (rowFact row (getD queue q 0)) (rowFact row b)) → T (goal t (rowFact row b)) → ⊥
+      (q : ℕ) → q < from → getD mark (getD queue q 0) 0 ≡ m → (b : ℕ) → b < n → T (next w (rowFact row (getD queue q 0)) (rowFact row b)) → T (goalFor t (rowFact row b)) → ⊥
 
   -- the marks below f are the numbers of facts of the shortest paths, a path of f facts leads to a goal, and none of fewer
   pub record Met (f : ℕ) (s : State) : Type 0 where
@@ -68,14 +68,14 @@ module _ (row : List ℕ) (n w : ℕ) (t : Fact) where
     pub sound : MarksPaths (s .mark)
     pub whole : (i : ℕ) → i < n → (m : ℕ) → Way i m → m < f → (0 < markAt s i) × (markAt s i ≤ m)
     pub end : Fact
-    pub path : Path (start w t) (next w) (factsOf row n) end f
-    pub ends : T (goal t end)
-    pub lowest : (a : Fact) (m : ℕ) → Path (start w t) (next w) (factsOf row n) a m → T (goal t a) → f ≤ m
+    pub path : Path (startFor w t) (next w) (factsOf row n) end f
+    pub ends : T (goalFor t end)
+    pub lowest : (a : Fact) (m : ℕ) → Path (startFor w t) (next w) (factsOf row n) a m → T (goalFor t a) → f ≤ m
     pub early : (m : ℕ) → f ≡ suc m → Early (s .mark) (s .queue) m (s .from)
 
   -- no path leads to a goal
   abbrev pub Nowhere : Type 0
-  Nowhere = (a : Fact) (m : ℕ) → Path (start w t) (next w) (factsOf row n) a m → T (goal t a) → ⊥
+  Nowhere = (a : Fact) (m : ℕ) → Path (startFor w t) (next w) (factsOf row n) a m → T (goalFor t a) → ⊥
 
   -- what a search that met a goal after f facts, or none and f is 0, leaves
   abbrev pub Left : ℕ → State → Type 0
@@ -86,7 +86,7 @@ module _ (row : List ℕ) (n w : ℕ) (t : Fact) where
 pub record Starting (row : List ℕ) (n w : ℕ) (t : Fact) (from to : ℕ) : Type 0 where
   pub begins : from ≤ n
   pub within : to ≤ n
-  pub all : (i : ℕ) → i < n → T (start w t (rowFact row i)) → (from ≤ i) × (i < to)
+  pub all : (i : ℕ) → i < n → T (startFor w t (rowFact row i)) → (from ≤ i) × (i < to)
 
 -- after the first round: a start is a goal, or the starts are marked and queued
 abbrev pub Seed : List ℕ → ℕ → ℕ → Fact → ℕ → State → Type 0

@@ -10,7 +10,7 @@ use lib.ListN.{getD}
 use lib.Dec.{T, eqb, ltb}
 use Rattle.facts.specs.declared.Fact.{Fact}
 use Rattle.rules.specs.Graph.{least}
-use Rattle.rules.specs.Paths.{named, start, next, goal}
+use Rattle.rules.specs.Paths.{named, next, fits, startFor, goalFor}
 use Rattle.question.specs.declared.State.{State}
 use Rattle.table.specs.Tables.{rowFact}
 use Rattle.question.specs.Row.{Rising}
@@ -23,13 +23,13 @@ placeOr n (some i) = i
 
 -- the fact at j is a start and a goal
 abbrev pub single : List ℕ → ℕ → Fact → ℕ → Bool
-single row w t j = goal t (rowFact row j) && start w t (rowFact row j)
+single row w t j = goalFor t (rowFact row j) && startFor w t (rowFact row j)
 
--- the fact at j is a data fact with the object x
+-- the fact at j is a data fact for whose object the term x of a question stands
 abbrev pub into : List ℕ → ℕ → ℕ → Bool
-into row x j = named (rowFact row j .predicate) && eqb (rowFact row j .object) x
+into row x j = named (rowFact row j .predicate) && fits x (rowFact row j .object)
 
--- what is looked for at j: where `leads`, a data fact with the subject of t as its object, and else a path for t by itself
+-- what is looked for at j: where `leads`, a data fact for whose object the subject of t stands, and else a path for t by itself
 abbrev pub sought : List ℕ → Bool → ℕ → Fact → ℕ → Bool
 sought row leads w t j = cond leads (into row (t .subject) j) (single row w t j)
 
@@ -44,11 +44,11 @@ module _ (row : List ℕ) (n w : ℕ) (mark : List ℕ) where
 
   -- by the marks, b ends a path of m + 1 facts
   abbrev pub comesBy : Fact → ℕ → Fact → Bool
-  comesBy t m b = cond (eqb m 0) (start w t b) (ltb (beforeOf m b) n)
+  comesBy t m b = cond (eqb m 0) (startFor w t b) (ltb (beforeOf m b) n)
 
   -- the place j is such a goal
   abbrev pub ending : Fact → ℕ → ℕ → Bool
-  ending t m j = goal t (rowFact row j) && comesBy t m (rowFact row j)
+  ending t m j = goalFor t (rowFact row j) && comesBy t m (rowFact row j)
 
 -- the places marked at most m are queued below `top`; below it the marks never fall
 pub record Queued (n : ℕ) (mark queue : List ℕ) (m top : ℕ) : Type 0 where
@@ -70,8 +70,8 @@ pub record Stepped (row : List ℕ) (n w : ℕ) (mark queue : List ℕ) (m : ℕ
 -- the first goal of a part of the row that may follow a, if it is below `best`
 pub record FirstEnd (row : List ℕ) (w : ℕ) (t a : Fact) (from to best r : ℕ) : Type 0 where
   pub most : r ≤ best
-  pub is : (r ≡ best) ⊎ ((r < to) × T (next w a (rowFact row r)) × T (goal t (rowFact row r)))
-  pub low : (j : ℕ) → from ≤ j → j < to → T (next w a (rowFact row j)) → T (goal t (rowFact row j)) → r ≤ j
+  pub is : (r ≡ best) ⊎ ((r < to) × T (next w a (rowFact row r)) × T (goalFor t (rowFact row r)))
+  pub low : (j : ℕ) → from ≤ j → j < to → T (next w a (rowFact row j)) → T (goalFor t (rowFact row j)) → r ≤ j
 
 -- what reading back needs: a search that met a goal after f facts, and room for f places
 pub record Traceable (row : List ℕ) (n w : ℕ) (t : Fact) (f : ℕ) (s : State) (size : ℕ) : Type 0 where

@@ -29,7 +29,7 @@ fn put_code(a: Answer, out: &mut [u8])
 fn reply_bytes(a: Answer) -> usize
     ensures { λ r. ⌜ r ≡ replySize a ⌝ }
 {
-    let Answer::Yes(f) = a else {
+    let Answer::Yes(f, _) = a else {
         return LINE_BYTES;
     };
     LINE_BYTES + search::needed_for(f)

@@ -14,14 +14,16 @@ use mir.Facts.{and-yes, yes-and}
 use Rattle.facts.specs.declared.Fact.{Fact}
 use Rattle.facts.specs.Terms.{sp, dom, range, type}
 use Rattle.facts.specs.Facts.{fact, wellFormed}
+use Rattle.facts.specs.Gaps.{Fills, Askable}
 use Rattle.facts.proofs.Terms.{by-cases, T-of, of-T}
 use Rattle.rules.specs.Graph.{_∈_, any, Path, first, step, nodes, layer, least}
-use Rattle.rules.specs.Paths.{named, HasPath, start, next, goal, fewest}
+use Rattle.rules.specs.Paths.{named, next, startFor, goalFor, HasFilling, reaches, fewest}
 use Rattle.rules.specs.Printed.{behind, printOrder, Printable}
 use Rattle.rules.specs.Chosen.{firstOf, arrives, leads, back, backFrom, wayOf, chosenBy, chosenOf, chosen, factIn, PathPlaces, placeBehind, printPlaces, Along, begin, go-on, NotBehind, same, lower, agree}
 use Rattle.rules.proofs.Tests.{any-in, in-any}
 use Rattle.rules.proofs.Graph.{Answer, least-answer, layer-path, path-layer, end-in, place, at-place}
 use Rattle.rules.proofs.Printed.{path-pos, path-printable}
+use Rattle.rules.proofs.Fillings.{path-filling}
 use Rattle.rules.proofs.Fewest.{Best, fewest-best}
 
 -- ---- the first that passes
@@ -192,46 +194,46 @@ module _ {A : Type 0} (st : A → Bool) (nx : A → A → Bool) (S : List A) (d 
 
 module _ (table : List Fact) (t : Fact) where
   -- the chosen path of k facts by w
-  pub by-read : (w k : ℕ) {b : Fact} → Path (start w t) (next w) table b k → T (goal t b)
-      → (e : Fact) × Read (start w t) (next w) table (fact 0 0 0) e k (chosenBy table t w k) × T (goal t e)
+  pub by-read : (w k : ℕ) {b : Fact} → Path (startFor w t) (next w) table b k → T (goalFor t b)
+      → (e : Fact) × Read (startFor w t) (next w) table (fact 0 0 0) e k (chosenBy table t w k) × T (goalFor t e)
   unfolding chosenBy
   by-read w k p g =
-      let r = from-some (start w t) (next w) table (fact 0 0 0) (goal t) k p g in
-      (getD table (r .0) (fact 0 0 0), rw (from-is _ _ table _ (goal t) k (r .0) (r .1)) (back-read _ _ table _ k (r .0) (r .2) (r .3)), r .4)
+      let r = from-some (startFor w t) (next w) table (fact 0 0 0) (goalFor t) k p g in
+      (getD table (r .0) (fact 0 0 0), rw (from-is _ _ table _ (goalFor t) k (r .0) (r .1)) (back-read _ _ table _ k (r .0) (r .2) (r .3)), r .4)
 
-  chosen-some : (k : ℕ) → (h : HasPath table t) → h .count ≡ k → (PathPlaces table t (chosenBy table t (wayOf table t k) k)) × (length (chosenBy table t (wayOf table t k) k) ≡ k)
+  chosen-some : (k : ℕ) → (h : HasFilling table t) → h .count ≡ k → (PathPlaces table t (chosenBy table t (wayOf table t k) k)) × (length (chosenBy table t (wayOf table t k) k) ≡ k)
   unfolding wayOf
   chosen-some k h e =
-      let test : ℕ → Bool = λ w. any (goal t) (layer (start w t) (next w) table k) in
-      let u = first-says test sp (h .asked) (in-any (goal t) (path-layer _ _ table (rw e at (h .path))) (h .goal)) in
+      let test : ℕ → Bool = λ w. any (goalFor t) (layer (startFor w t) (next w) table k) in
+      let u = first-says test sp (h .asked) (in-any (goalFor t) (path-layer _ _ table (rw e at (h .path))) (h .goal)) in
       let w : ℕ = wayOf table t k in
-      let y = any-in (goal t) (layer (start w t) (next w) table k) (u .1) in
+      let y = any-in (goalFor t) (layer (startFor w t) (next w) table k) (u .1) in
       let r = by-read w k (layer-path _ _ table k (y .1)) (y .2) in
       let d = r .1 in
       (record { path = record { way = w; asked = u .0; end = r .0; count = k; path = d .path; goal = r .2 }; count = sym (d .long); facts = d .facts; inside = d .inside }, d .long)
 
   -- of the paths of k facts by w, read from the end, it is the first
-  by-first : (w k : ℕ) {j : ℕ} {l : List ℕ} → Along (start w t) (next w) table (fact 0 0 0) k j l → T (goal t (factIn table j)) → NotBehind (chosenBy table t w k) l
+  by-first : (w k : ℕ) {j : ℕ} {l : List ℕ} → Along (startFor w t) (next w) table (fact 0 0 0) k j l → T (goalFor t (factIn table j)) → NotBehind (chosenBy table t w k) l
   unfolding chosenBy
   by-first w zero a g = absurd (omega (arith, path-pos (along-path _ _ table _ a)))
-  by-first w (suc k) a g = from-first (start w t) (next w) table (fact 0 0 0) (goal t) k a g
+  by-first w (suc k) a g = from-first (startFor w t) (next w) table (fact 0 0 0) (goalFor t) k a g
 
   -- the way: by neither, by dom where a path of so few facts goes by dom, and else by range
   pub way-plain : (k : ℕ) → eqb (t .predicate) type ≡ false → wayOf table t k ≡ sp
   unfolding wayOf
-  way-plain k e = rw e (by-cases (any (goal t) (layer (start sp t) (next sp) table k)) (λ y. rw y refl) (λ y. rw y refl))
+  way-plain k e = rw e (by-cases (any (goalFor t) (layer (startFor sp t) (next sp) table k)) (λ y. rw y refl) (λ y. rw y refl))
 
-  pub way-dom : (k : ℕ) {b : Fact} → eqb (t .predicate) type ≡ true → Path (start dom t) (next dom) table b k → T (goal t b) → wayOf table t k ≡ dom
+  pub way-dom : (k : ℕ) {b : Fact} → eqb (t .predicate) type ≡ true → Path (startFor dom t) (next dom) table b k → T (goalFor t b) → wayOf table t k ≡ dom
   unfolding wayOf
-  way-dom k e p g = rw (e, of-T (any (goal t) (layer (start dom t) (next dom) table k)) (in-any (goal t) (path-layer _ _ table p) g)) refl
+  way-dom k e p g = rw (e, of-T (any (goalFor t) (layer (startFor dom t) (next dom) table k)) (in-any (goalFor t) (path-layer _ _ table p) g)) refl
 
-  pub way-range : (k : ℕ) {b : Fact} → eqb (t .predicate) type ≡ true → ((a : Fact) → Path (start dom t) (next dom) table a k → T (goal t a) → ⊥)
-      → Path (start range t) (next range) table b k → T (goal t b) → wayOf table t k ≡ range
+  pub way-range : (k : ℕ) {b : Fact} → eqb (t .predicate) type ≡ true → ((a : Fact) → Path (startFor dom t) (next dom) table a k → T (goalFor t a) → ⊥)
+      → Path (startFor range t) (next range) table b k → T (goalFor t b) → wayOf table t k ≡ range
   unfolding wayOf
   way-range k e out p g =
-      by-cases (any (goal t) (layer (start dom t) (next dom) table k))
-      (λ y. let r = any-in (goal t) (layer (start dom t) (next dom) table k) (T-of _ y) in absurd (out (r .0) (layer-path _ _ table k (r .1)) (r .2)))
-      (λ y. rw (e, y, of-T (any (goal t) (layer (start range t) (next range) table k)) (in-any (goal t) (path-layer _ _ table p) g)) refl)
+      by-cases (any (goalFor t) (layer (startFor dom t) (next dom) table k))
+      (λ y. let r = any-in (goalFor t) (layer (startFor dom t) (next dom) table k) (T-of _ y) in absurd (out (r .0) (layer-path _ _ table k (r .1)) (r .2)))
+      (λ y. rw (e, y, of-T (any (goalFor t) (layer (startFor range t) (next range) table k)) (in-any (goalFor t) (path-layer _ _ table p) g)) refl)
 
   -- what the chosen places of an answer are
   abbrev Says : Option ℕ → Option (List ℕ) → Type 0
@@ -255,6 +257,11 @@ module _ (table : List Fact) (t : Fact) where
       go none r s = rw s refl
       go (some k) r (e, f, p) = rw (e, f) refl
 
+  -- it has at most as many facts as the table
+  pub fewest-few : (k : ℕ) → fewest table t ≡ some k → k ≤ length table
+  unfolding fewest
+  fewest-few k e = omega (arith, least-below (reaches table t) 1 (length table) k e)
+
   module _ (places : List ℕ) (is : chosen table t ≡ some places) where
     -- the chosen places, and their number
     chosen-by : (o : Option ℕ) (r : Option (List ℕ)) → Says o r → r ≡ some places → PathPlaces table t places × (places ≡ chosenBy table t (wayOf table t (length places)) (length places))
@@ -266,8 +273,8 @@ module _ (table : List Fact) (t : Fact) where
     chosen-path = chosen-by (fewest table t) (chosen table t) chosen-says is .0
 
     -- and of the paths of so few facts by its way, read from the end, it is the first
-    pub chosen-first : {j : ℕ} {l : List ℕ} → Along (start (wayOf table t (length places)) t) (next (wayOf table t (length places))) table (fact 0 0 0) (length places) j l
-        → T (goal t (factIn table j)) → NotBehind places l
+    pub chosen-first : {j : ℕ} {l : List ℕ} → Along (startFor (wayOf table t (length places)) t) (next (wayOf table t (length places))) table (fact 0 0 0) (length places) j l
+        → T (goalFor t (factIn table j)) → NotBehind places l
     chosen-first {l = l} a g =
         let e = chosen-by (fewest table t) (chosen table t) chosen-says is .1 in
         subst (λ (x : List ℕ). NotBehind x l) (sym e) (by-first (wayOf table t (length places)) (length places) a g)
@@ -286,9 +293,10 @@ module _ (at : ℕ → Fact) where
   print-places [] = refl
   print-places (x ∷ xs) = by-cases (named (at x .predicate)) (λ e. rw e (behind-places x xs)) (λ e. rw e refl)
 
-module _ (table : List Fact) (wf : (f : Fact) → f ∈ table → T (wellFormed f)) (t : Fact) (places : List ℕ) (is : chosen table t ≡ some places) where
-  -- the facts at the chosen places, in printed order, are a derivation of t with as many table lines as places
-  pub chosen-printable : Printable table t (printOrder (map (factIn table) places))
+module _ (table : List Fact) (wf : (f : Fact) → f ∈ table → T (wellFormed f)) (t : Fact) (ask : Askable t) (places : List ℕ) (is : chosen table t ≡ some places) where
+  -- the facts at the chosen places, in printed order, are a derivation of a filling of t with as many table lines as places
+  pub chosen-printable : (u : Fact) × Fills t u × Printable table u (printOrder (map (factIn table) places))
   chosen-printable =
       let s = chosen-path table t places is in
-      subst (λ (l : List Fact). Printable table t (printOrder l)) (sym (s .facts)) (path-printable table wf (s .path))
+      let p = path-filling t wf ask (s .path) in
+      (p .filling, p .fills, subst (λ (l : List Fact). Printable table (p .filling) (printOrder l)) (p .facts ∙ sym (s .facts)) (path-printable table wf (p .run)))

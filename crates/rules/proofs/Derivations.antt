@@ -12,6 +12,7 @@ use mir.Facts.{eqb-yes}
 use Rattle.facts.specs.declared.Fact.{Fact}
 use Rattle.rules.specs.Graph.{_∈_, keep}
 use Rattle.rules.specs.Derivations.{Relation, Line, factOn, Justified, by-table, by-rule, Justify, Derives, tableFacts, Closed, Holds}
+use Rattle.rules.specs.Printed.{conclusion}
 use Rattle.rules.proofs.Tests.{keep-in, in-keep}
 
 -- a fact on a line of d is the fact of an element of d
@@ -21,6 +22,13 @@ factOn-in [] n {f} e = absurd (Option·none-ne-some f e)
 factOn-in (l ∷ d) zero {f} e = absurd (Option·none-ne-some f e)
 factOn-in (l ∷ d) (suc zero) e = (l, List·Memᴰ·head refl, cc)
 factOn-in (l ∷ d) (suc (suc n)) e = let r = factOn-in d (suc n) e in (r .0, List·Memᴰ·tail (r .1), r .2)
+
+-- the fact on the last line is what the derivation ends in
+pub conclusion-is : (d : List Line) {f : Fact} → factOn d (length d) ≡ some f → conclusion d ≡ f
+unfolding factOn conclusion
+conclusion-is [] {f} e = absurd (Option·none-ne-some f e)
+conclusion-is (l ∷ []) e = cc
+conclusion-is (l ∷ m ∷ d) e = conclusion-is (m ∷ d) e
 
 -- the facts of the lines of d are in the set
 abbrev LinesIn : (Fact → Type 0) → List Line → Type 0

@@ -1,17 +1,17 @@
 -- Paths in a finite graph: layers, that a shortest path needs no node twice, the least number that passes, and places.
 -- Assumes nothing.
-use mathlib.Core.Path.{_≡_, refl, sym}
+use mathlib.Core.Path.{_≡_, refl, sym, ap}
 use mathlib.Core.Logic.{_⊎_, inl, inr, ⊎-elim}
 use mathlib.Core.Bool.{Bool, false, not}
 use mathlib.Core.Option.{Option, none, some}
-use mathlib.Core.List.{List, [], _∷_, List·Memᴰ·not-nil, List·Memᴰ·head, List·Memᴰ·tail}
+use mathlib.Core.List.{List, [], _∷_, _++_, List·Memᴰ·not-nil, List·Memᴰ·head, List·Memᴰ·tail}
 use Prim.Native.Nat.{ℕ, zero, suc, _+_, _≤_, _<_, suc-le-suc}
 use native.Mathlib.Nat.{eq-or-lt-of-le}
 use native.Mathlib.Omega.{arith}
 use lib.ListN.{length, getD}
 use lib.Dec.{T}
 use mir.Facts.{T-not}
-use Rattle.rules.specs.Graph.{_∈_, keep, Path, first, step, layer, least}
+use Rattle.rules.specs.Graph.{_∈_, keep, Path, first, step, nodes, layer, least}
 use Rattle.facts.proofs.Terms.{by-cases, T-of, of-T}
 use Rattle.rules.proofs.Tests.{keep-in, in-keep, keep-shorter, any-in, in-any}
 
@@ -33,6 +33,20 @@ module _ {A : Type 0} where
       → (i : ℕ) × Path st nx S c i
   append-path h p (first m s) f = (_, step p m (f _ s))
   append-path h p (step q m n) f = let r = append-path h p q f in (_, step (r .1) m (h _ _ n))
+
+  -- the first node of a path: any start that takes it begins a path of the same nodes
+  pub record Begins {st : A → Bool} {nx : A → A → Bool} {S : List A} {b : A} {k : ℕ} (p : Path st nx S b k) : Type 0 where
+    pub head : A
+    pub inside : head ∈ S
+    pub starts : T (st head)
+    pub again : (st′ : A → Bool) → T (st′ head) → (q : Path st′ nx S b k) × (nodes q ≡ nodes p)
+
+  pub begins : {st : A → Bool} {nx : A → A → Bool} {S : List A} {b : A} {k : ℕ} (p : Path st nx S b k) → Begins p
+  unfolding nodes
+  begins (first {a} m s) = record { head = a; inside = m; starts = s; again = λ st′ t. (first m t, refl) }
+  begins (step {b = b} p m n) =
+      let r = begins p in
+      record { head = r .head; inside = r .inside; starts = r .starts; again = λ st′ t. let q = r .again st′ t in (step (q .0) m n, ap (λ (l : List A). l ++ (b ∷ [])) (q .1)) }
 
 module _ {A : Type 0} (st : A → Bool) (nx : A → A → Bool) where
   -- the k-th layer holds the ends of the paths of k nodes

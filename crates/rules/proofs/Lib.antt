@@ -1,6 +1,7 @@
 pub mod Chosen
 pub mod Derivations
 pub mod Fewest
+pub mod Fillings
 pub mod Graph
 pub mod Joins
 pub mod Paths

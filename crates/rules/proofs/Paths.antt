@@ -19,7 +19,7 @@ use Rattle.rules.specs.Graph.{_∈_, any, Path, first, step, nodes, laye
 use Rattle.rules.specs.Rules.{Gives, sp-sp, sp-data, sc-sc, sc-type, dom-data, range-data, Rule}
 use Rattle.rules.specs.Derivations.{Line, Derives, tableFacts, tableLines, Closed, Holds}
 use Rattle.rules.specs.Steps.{same}
-use Rattle.rules.specs.Paths.{named, link, property, chain, onlyTable, goesOn, next, typed, start, goal, ways, HasPath, reaches}
+use Rattle.rules.specs.Paths.{named, link, property, chain, onlyTable, goesOn, next, typed, start, goal, ways, Runs, HasPath}
 use Rattle.rules.proofs.Tests.{or-l, or-r, beq-yes, beq-self, in-any, any-in}
 use Rattle.rules.proofs.Graph.{map-path, append-path, end-in, path-layer, layer-path, short}
 use Rattle.rules.proofs.Steps.{same-eq, same-self, rule-numbered}
@@ -31,7 +31,7 @@ pub goal-says : (t a : Fact) → T (goal t a) → (link a ≡ link t) × (proper
 unfolding goal
 goal-says t a h = let r = and-yes (eqb (link a) (link t)) (Bool·beq (property a) (property t)) h in (eqb-yes (r .0), beq-yes (property a) (property t) (r .1))
 
-goal-is : (t a : Fact) → link a ≡ link t → property a ≡ property t → T (goal t a)
+pub goal-is : (t a : Fact) → link a ≡ link t → property a ≡ property t → T (goal t a)
 unfolding goal
 goal-is t a e f = yes-and (eqb (link a) (link t)) (Bool·beq (property a) (property t)) (yes-eqb e) (rw f (beq-self (property t)))
 
@@ -312,21 +312,11 @@ derives-path {table} {d} h = closed-derives Rule table (HasPath (tableFacts d)) 
 
 -- ---- the least number of facts
 
-pub reaches-is : {S : List Fact} {t : Fact} (h : HasPath S t) → T (reaches S t (h .count))
-unfolding reaches
-reaches-is {S} {t} h = in-any (λ w. any (goal t) (layer (start w t) (next w) S (h .count))) (h .asked) (in-any (goal t) (path-layer _ _ S (h .path)) (h .goal))
-
-pub reaches-says : (S : List Fact) (t : Fact) (k : ℕ) → T (reaches S t k) → (h : HasPath S t) × (h .count ≡ k)
-unfolding reaches
-reaches-says S t k r =
-    let x = any-in (λ w. any (goal t) (layer (start w t) (next w) S k)) (ways t) r in
-    let y = any-in (goal t) (layer (start (x .0) t) (next (x .0)) S k) (x .2) in
-    (record { way = x .0; asked = x .1; end = y .0; count = k; path = layer-path _ _ S k (y .1); goal = y .2 }, refl)
-
 -- short: a path over S gives one of at most as many facts as S has, over any facts that have those of S among them
-pub shorten : {S : List Fact} {t : Fact} (table : List Fact) → ((f : Fact) → f ∈ S → f ∈ table) → HasPath S t → (h : HasPath table t) × (h .count ≤ length S)
-shorten {S} {t} table sub h =
-    let r = short (start (h .way) t) (next (h .way)) same same-eq same-self (h .path) in
+pub shorten : {st : ℕ → Fact → Bool} {g : Fact → Bool} {ws : List ℕ} {S : List Fact} (table : List Fact) → ((f : Fact) → f ∈ S → f ∈ table) → Runs st g ws S
+    → (h : Runs st g ws table) × (h .count ≤ length S)
+shorten {st} table sub h =
+    let r = short (st (h .way)) (next (h .way)) same same-eq same-self (h .path) in
     (record { way = h .way; asked = h .asked; end = h .end; count = r .0; path = map-path sub (λ b s. s) (λ a b n. n) (r .2); goal = h .goal }, r .1)
 
 -- a derivation from facts of the table has at least as many table lines as some path over the table has facts

@@ -17,7 +17,7 @@ use Rattle.facts.proofs.Terms.{by-cases, T-of, of-T}
 use Rattle.facts.proofs.Facts.{fact-eq, parts, whole}
 use Rattle.rules.specs.Graph.{_∈_, Path, first, step, nodes}
 use Rattle.rules.specs.Rules.{sp-sp, sp-data, sc-sc, sc-type, dom-data, range-data}
-use Rattle.rules.specs.Paths.{named, link, property, chain, next, typed, onlyTable, start, goal, ways, HasPath}
+use Rattle.rules.specs.Paths.{named, link, property, chain, next, typed, onlyTable, start, goal, ways, Runs, HasPath}
 use Rattle.rules.specs.Printed.{Printable, behind, printOrder}
 use Rattle.rules.proofs.Paths.{plain, link-vocabulary, link-data, property-data, property-of, start-data, start-other, next-says, Succeeds, goal-says, only-path, only-says, chain-name, chain-property, Open, is-sc, is-sp, is-type, open-of}
 use Rattle.rules.proofs.Joins.{Joined, on-first, on-second, Joins, done, more, Linear, printable}
@@ -285,5 +285,5 @@ module _ (table : List Fact) (wf : (f : Fact) → f ∈ table → T (wellFormed 
   path-printable h = let l = path-linear h in printable l (wf (l .head) (l .head-in))
 
 -- and it prints as many facts as the path has
-pub path-count : {S : List Fact} {t : Fact} (h : HasPath S t) → length (printOrder (nodes (h .path))) ≡ h .count
+pub path-count : {st : ℕ → Fact → Bool} {g : Fact → Bool} {ws : List ℕ} {S : List Fact} (h : Runs st g ws S) → length (printOrder (nodes (h .path))) ≡ h .count
 path-count h = order-length (nodes (h .path)) ∙ nodes-length (h .path)

@@ -1,4 +1,4 @@
--- Which of the shortest paths is meant: by domain, and by range only where that is shorter; of those the one whose last fact stands first
+-- Which of the shortest paths for a question is meant: by domain, and by range only where that is shorter; of those the one whose last fact stands first
 -- in the table, then whose last but one, and so on.
 -- Assumes nothing.
 use mathlib.Core.Path.{_≡_}
@@ -12,7 +12,7 @@ use Rattle.facts.specs.declared.Fact.{Fact}
 use Rattle.facts.specs.Terms.{kindOf, sp}
 use Rattle.facts.specs.Facts.{fact}
 use Rattle.rules.specs.Graph.{_∈_, any, nodes, layer, least}
-use Rattle.rules.specs.Paths.{named, start, next, goal, ways, HasPath, fewest}
+use Rattle.rules.specs.Paths.{named, startFor, next, goalFor, ways, HasFilling, fewest}
 
 -- the first element that passes, or else d
 unfoldable pub firstOf : {A : Type 0} → (A → Bool) → A → List A → A
@@ -61,13 +61,13 @@ pub data NotBehind : List ℕ → List ℕ → Type 0 where
 
 -- the way of the shortest paths of k facts: by dom, if one goes by dom
 unfoldable pub wayOf : List Fact → Fact → ℕ → ℕ
-unfolding firstOf any layer start next goal ways
-wayOf table t k = firstOf (λ w. any (goal t) (layer (start w t) (next w) table k)) sp (ways t)
+unfolding firstOf any layer startFor next goalFor ways
+wayOf table t k = firstOf (λ w. any (goalFor t) (layer (startFor w t) (next w) table k)) sp (ways t)
 
 -- the places, counted from 0, of the chosen path of k facts by w
 unfoldable pub chosenBy : List Fact → Fact → ℕ → ℕ → List ℕ
-unfolding backFrom start next goal
-chosenBy table t w k = backFrom (start w t) (next w) table (fact 0 0 0) (goal t) k
+unfolding backFrom startFor next goalFor
+chosenBy table t w k = backFrom (startFor w t) (next w) table (fact 0 0 0) (goalFor t) k
 
 -- that of k facts, if a number is given
 unfoldable pub chosenOf : List Fact → Fact → Option ℕ → Option (List ℕ)
@@ -86,7 +86,7 @@ factIn table i = getD table i (fact 0 0 0)
 
 -- the facts at the places, in order, are those of a path for t
 pub record PathPlaces (table : List Fact) (t : Fact) (places : List ℕ) : Type 0 where
-  pub path : HasPath table t
+  pub path : HasFilling table t
   pub count : path .count ≡ length places
   pub facts : map (factIn table) places ≡ nodes (path .path)
   pub inside : (i : ℕ) → i ∈ places → i < length table

@@ -1,5 +1,6 @@
 pub mod Chosen
 pub mod Derivations
+pub mod Fillings
 pub mod Graph
 pub mod Order
 pub mod Paths

@@ -9,6 +9,7 @@ use lib.ListN.{length}
 use lib.Dec.{T, eqb}
 use Rattle.facts.specs.declared.Fact.{Fact}
 use Rattle.facts.specs.Terms.{kindOf, isName, sc, sp, dom, range, type}
+use Rattle.facts.specs.Gaps.{isGap}
 use Rattle.rules.specs.Graph.{_∈_, any, Path, layer, least}
 
 -- n is a name
@@ -66,19 +67,47 @@ goal t a = eqb (link a) (link t) && Bool·beq (property a) (property t)
 unfoldable pub ways : Fact → List ℕ
 ways t = cond (eqb (t .predicate) type) (dom ∷ range ∷ []) (sp ∷ [])
 
--- a path for t over the facts S
-pub record HasPath (S : List Fact) (t : Fact) : Type 0 where
+-- a path over S by one of the ways ws, which begins as `st` says for its way and ends as g says
+pub record Runs (st : ℕ → Fact → Bool) (g : Fact → Bool) (ws : List ℕ) (S : List Fact) : Type 0 where
   pub way : ℕ
-  pub asked : way ∈ ways t
+  pub asked : way ∈ ws
   pub end : Fact
   pub count : ℕ
-  pub path : Path (start way t) (next way) S end count
-  pub goal : T (goal t end)
+  pub path : Path (st way) (next way) S end count
+  pub goal : T (g end)
+
+-- a path for the fact t over the facts S
+abbrev pub HasPath : List Fact → Fact → Type 0
+HasPath S t = Runs (λ w. start w t) (goal t) (ways t) S
+
+-- ---- a question, which may have a gap
+
+-- the term x of a question stands for the term n: it is n, or a gap
+unfoldable pub fits : ℕ → ℕ → Bool
+unfolding isGap
+fits x n = isGap x || eqb n x
+
+-- a path by w for the question t may begin with a: as for a fact, but a gap stands for any term
+unfoldable pub startFor : ℕ → Fact → Fact → Bool
+unfolding kindOf typed fits
+startFor w t a =
+    cond (named (a .predicate))
+    (cond (named (t .predicate)) (fits (t .subject) (a .subject) && fits (t .object) (a .object)) (eqb (t .predicate) type && fits (t .subject) (typed w a)))
+    (eqb (a .predicate) (t .predicate) && fits (t .subject) (a .subject))
+
+-- a path for the question t may end with a
+unfoldable pub goalFor : Fact → Fact → Bool
+unfolding link property fits
+goalFor t a = fits (link t) (link a) && Bool·beq (property a) (property t)
+
+-- a path for the question t over the facts S: one for a fact that fills it (`filling-path`, `path-filling`)
+abbrev pub HasFilling : List Fact → Fact → Type 0
+HasFilling S t = Runs (λ w. startFor w t) (goalFor t) (ways t) S
 
 -- some path for t over S has k facts
 unfoldable pub reaches : List Fact → Fact → ℕ → Bool
-unfolding any layer start next goal ways
-reaches S t k = any (λ w. any (goal t) (layer (start w t) (next w) S k)) (ways t)
+unfolding any layer startFor next goalFor ways
+reaches S t k = any (λ w. any (goalFor t) (layer (startFor w t) (next w) S k)) (ways t)
 
 -- the least number of facts on a path for t over the table
 unfoldable pub fewest : List Fact → Fact → Option ℕ

@@ -37,6 +37,12 @@ unfolding joinAll
 printed [] = []
 printed (f ∷ fs) = derivationLine 0 0 0 f ∷ joinAll f 1 fs
 
+-- the fact on the last line
+unfoldable pub conclusion : List Line → Fact
+conclusion [] = fact 0 0 0
+conclusion (l ∷ []) = l .fact
+conclusion (l ∷ m ∷ d) = conclusion (m ∷ d)
+
 -- a fact and then others, with the fact behind the sp facts that begin them
 unfoldable pub behind : Fact → List Fact → List Fact
 behind q [] = q ∷ []

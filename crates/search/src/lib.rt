@@ -39,7 +39,7 @@ pub fn needed_for(limit: u32) -> usize
 fn verdict(t: Fact, limit: u32, size: usize) -> Verdict
     ensures { λ r. ⌜ r ≡ asked t limit size ⌝ }
 {
-    let v = faults::fault(t);
+    let v = gaps::question_fault(t);
     match v {
         Verdict::Faulty(r) => Verdict::Faulty(r),
         Verdict::Sound => {
@@ -54,7 +54,7 @@ fn verdict(t: Fact, limit: u32, size: usize) -> Verdict
     }
 }
 
-// The answer from a table's facts; a yes writes its derivation into the output.
+// The answer from a table's facts; a yes writes its derivation into the output, and names what fills a gap on its last line.
 fn settle(row: &[u32], n: usize, t: Fact, limit: u32, output: &mut [u8]) -> Answer
     requires { ⌜ Settling (now row) n limit (length (now output)) ⌝ }
     ensures answer { λ r. ⌜ r ≡ answerOf (factsOf (now (row .entry)) n) t limit ⌝ }
@@ -69,14 +69,14 @@ fn settle(row: &[u32], n: usize, t: Fact, limit: u32, output: &mut [u8]) -> Answ
                 return Answer::Long(count);
             }
             print_order(row, n, f, &mut path);
-            print(row, n, f, &path, output);
-            Answer::Yes(count)
+            let last = print(row, n, f, &path, output);
+            Answer::Yes(count, gaps::filling_of(t, last))
         }
     }
 }
 
-// The question: whether the fact follows from the table, and from how few of its facts. The limit is document 01's allowance
-// and the output its paper: a yes writes the derivation into its front, any other answer leaves it as it was.
+// The question: whether the fact, or one that fills its gap, follows from the table, and from how few of its facts. The limit is
+// document 01's allowance and the output its paper: a yes writes the derivation into its front, any other answer leaves it as it was.
 pub fn question(table: &[u8], fact: Fact, limit: u32, output: &mut [u8]) -> Answer
     ensures call { λ r. ⌜ Answered (question (now (table .entry)) fact limit) (now (output .entry)) (now (output .exit)) r ⌝ }
     ensures meaning { λ r. ⌜ Means (question (now (table .entry)) fact limit) (now (output .entry)) (now (output .exit)) (codeOf r) ⌝ }

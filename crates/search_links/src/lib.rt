@@ -5,9 +5,10 @@ use facts::RANGE;
 use facts::SC;
 use facts::SP;
 use facts::TYPE;
+use terms::is_gap;
 use terms::is_name;
 ghost use mathlib.Core.Path.{_≡_};
-ghost use Rattle.rules.specs.Paths.{link, property, goesOn, next, start, goal};
+ghost use Rattle.rules.specs.Paths.{link, property, goesOn, next, fits, startFor, goalFor};
 
 // The term to which a fact leads: the predicate of a data fact, and else the object.
 pub fn link_of(f: Fact) -> u32
@@ -50,31 +51,37 @@ pub fn follows(w: u32, a: Fact, b: Fact) -> bool
     }
 }
 
-// A path by w for t may begin with a.
+// The term x of a question stands for the term n: it is n, or a gap.
+pub fn fits(x: u32, n: u32) -> bool
+    ensures { λ r. ⌜ r ≡ fits x n ⌝ }
+{
+    is_gap(x) | (n == x)
+}
+
+// A path by w for the question t may begin with a.
 pub fn starts(w: u32, t: Fact, a: Fact) -> bool
-    ensures { λ r. ⌜ r ≡ start w t a ⌝ }
+    ensures { λ r. ⌜ r ≡ startFor w t a ⌝ }
 {
     let s = t.subject;
     let p = t.predicate;
-    let o = t.object;
     let x = a.subject;
     let q = a.predicate;
     let y = a.object;
     if is_name(q) {
         if is_name(p) {
-            return (x == s) & (y == o);
+            return fits(s, x) & fits(t.object, y);
         }
         if w == RANGE {
-            return (p == TYPE) & (y == s);
+            return (p == TYPE) & fits(s, y);
         }
-        return (p == TYPE) & (x == s);
+        return (p == TYPE) & fits(s, x);
     }
-    (q == p) & (x == s)
+    (q == p) & fits(s, x)
 }
 
-// A path for t may end with a.
+// A path for the question t may end with a.
 pub fn ends(t: Fact, a: Fact) -> bool
-    ensures { λ r. ⌜ r ≡ goal t a ⌝ }
+    ensures { λ r. ⌜ r ≡ goalFor t a ⌝ }
 {
-    (link_of(a) == link_of(t)) & (is_property(a) == is_property(t))
+    fits(link_of(t), link_of(a)) & (is_property(a) == is_property(t))
 }

@@ -8,6 +8,7 @@ use search_links::is_property;
 use search_links::link_of;
 use table::FIELDS;
 use table::PLACES;
+use terms::is_gap;
 ghost use mathlib.Core.Path.{_≡_};
 ghost use Prim.Native.Nat.{_+_, _*_, _≤_, _<_};
 ghost use Rattle.rules.specs.Paths.{property};
@@ -60,15 +61,15 @@ fn run_end(row: &[u32], n: usize, x: u32, lo: usize) -> usize
     hi
 }
 
-// Where the starts of a path by w for t stand: among the facts with the subject of t, and by range anywhere.
+// Where the starts of a path by w for t stand: among the facts with the subject of t; by range, and where that is a gap, anywhere.
 pub fn starting(row: &[u32], n: usize, w: u32, t: Fact) -> Span
     requires { ⌜ Rising (now row) n ⌝ }
     ensures { λ r. ⌜ Starting (now (row .entry)) n w t (r .from) (r .to) ⌝ }
 {
-    if w == RANGE {
+    let x = t.subject;
+    if (w == RANGE) | is_gap(x) {
         return Span { from: 0, to: n };
     }
-    let x = t.subject;
     let lo = lower_bound(row, n, x);
     let hi = run_end(row, n, x, lo);
     Span { from: lo, to: hi }

@@ -19,7 +19,7 @@ ghost use Rattle.columns.specs.Lines.{Below, over};
 ghost use Rattle.facts.specs.Facts.{fact};
 ghost use Rattle.table.specs.Tables.{terms};
 ghost use Rattle.rules.specs.Derivations.{derivationLine};
-ghost use Rattle.rules.specs.Printed.{join, printed};
+ghost use Rattle.rules.specs.Printed.{join, printed, conclusion};
 ghost use Rattle.derivation.specs.Bytes.{derivationBytes};
 ghost use Rattle.question.specs.Order.{Placed, Run, Rotated, InPrint, Printing, factsAt};
 
@@ -138,10 +138,11 @@ fn put_joined(c: Fact, i: u32, f: Fact, out: &mut [u8]) -> Fact
 }
 
 // Writes the derivation of the facts at the first f places, which stand in printed order: each line into the part of the
-// output that begins where the last ended.
-pub fn print(row: &[u32], n: usize, f: usize, path: &[u16], out: &mut [u8])
+// output that begins where the last ended. Gives the fact on its last line.
+pub fn print(row: &[u32], n: usize, f: usize, path: &[u16], out: &mut [u8]) -> Fact
     requires { ⌜ Printing (now row) n f (now path) (length (now out)) ⌝ }
-    ensures { λ _. ⌜ now (out .exit) ≡ over (derivationBytes (printed (factsAt (now (row .entry)) (now (path .entry)) f))) (now (out .entry)) ⌝ }
+    ensures conclusion { λ r. ⌜ r ≡ conclusion (printed (factsAt (now (row .entry)) (now (path .entry)) f)) ⌝ }
+    ensures lines { λ _. ⌜ now (out .exit) ≡ over (derivationBytes (printed (factsAt (now (row .entry)) (now (path .entry)) f))) (now (out .entry)) ⌝ }
 {
     let mut c = row_fact(row, wide(path[0]));
     let first = table_line(c);
@@ -156,4 +157,5 @@ pub fn print(row: &[u32], n: usize, f: usize, path: &[u16], out: &mut [u8])
         i += 2;
         k += 1;
     }
+    c
 }

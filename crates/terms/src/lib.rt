@@ -2,8 +2,9 @@
 use facts::Fact;
 use facts::Kind;
 ghost use mathlib.Core.Path.{_≡_};
-ghost use Rattle.facts.specs.Terms.{kindOf, isNoTerm, isBlank, isName};
+ghost use Rattle.facts.specs.Terms.{kindOf, isNoTerm, isVocabulary, isLiteral, isBlank, isName};
 ghost use Rattle.facts.specs.Facts.{isNode, isPredicate, wellFormed};
+ghost use Rattle.facts.specs.Gaps.{isGap};
 
 // The first and last numbers of the kinds.
 const NAME_FIRST: u32 = 6;
@@ -64,6 +65,34 @@ pub fn is_blank(k: Kind) -> bool
     }
 }
 
+// One of the vocabulary.
+pub fn is_vocabulary(k: Kind) -> bool
+    ensures { λ r. ⌜ r ≡ isVocabulary k ⌝ }
+{
+    match k {
+        Kind::Vocabulary => true,
+        Kind::NoTerm => false,
+        Kind::Name => false,
+        Kind::Literal => false,
+        Kind::BlankNode => false,
+        Kind::Beyond => false,
+    }
+}
+
+// A literal.
+pub fn is_literal(k: Kind) -> bool
+    ensures { λ r. ⌜ r ≡ isLiteral k ⌝ }
+{
+    match k {
+        Kind::Literal => true,
+        Kind::NoTerm => false,
+        Kind::Vocabulary => false,
+        Kind::Name => false,
+        Kind::BlankNode => false,
+        Kind::Beyond => false,
+    }
+}
+
 // A name.
 fn is_name_kind(k: Kind) -> bool
     ensures { λ r. ⌜ r ≡ isName k ⌝ }
@@ -83,6 +112,13 @@ pub fn is_name(n: u32) -> bool
     ensures { λ r. ⌜ r ≡ isName (kindOf n) ⌝ }
 {
     is_name_kind(kind_of(n))
+}
+
+// A number is a gap in a question.
+pub fn is_gap(n: u32) -> bool
+    ensures { λ r. ⌜ r ≡ isGap n ⌝ }
+{
+    is_blank(kind_of(n))
 }
 
 // What may be a subject or an object: a name or a literal.

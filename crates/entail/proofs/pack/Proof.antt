@@ -29,10 +29,22 @@ mul-result-2 : tie.Need-mul-result-2
 mul-result-2 c = search needs
 
 add-result-2 : tie.Need-add-result-2
-add-result-2 c = let r = c .before .before .before .code-of in let s = rw (← r .ensures) at (c .before .before .before .before .pre) in omega (arith, s .number, s .place, s .count)
+add-result-2 c = let r = c .before .before .before .code-of in let s = rw (← r .ensures) at (c .before .before .before .before .pre) in omega (arith, s .number, s .place, s .count, s .filling)
+
+cast-result-4 : tie.Need-cast-result-4
+cast-result-4 c = search needs
+
+mul-result-3 : tie.Need-mul-result-3
+mul-result-3 c = let r = c .before .before .before .before .code-of in let s = rw (← r .ensures) at (c .before .before .before .before .before .pre) in omega (arith, s .number, s .place, s .count, s .filling)
+
+add-result-3 : tie.Need-add-result-3
+add-result-3 c =
+    let r = c .before .before .before .before .code-of in
+    let s = rw (← r .ensures) at (c .before .before .before .before .before .pre) in
+    omega (arith, s .number, s .place, s .count, s .filling)
 
 returns : tie.Need-returns
-returns c = ap packed (c .before .before .before .code-of .ensures)
+returns c = ap packed (c .before .before .before .before .code-of .ensures)
 
 pub pack-spec : {M : Type 1} → statement M
 pack-spec =
@@ -46,4 +58,7 @@ pack-spec =
     cast-result-3
     mul-result-2
     add-result-2
+    cast-result-4
+    mul-result-3
+    add-result-3
     returns)

@@ -15,7 +15,7 @@ use Rattle.replies.proofs.reply_bytes.Tie as tie
 
 -- any variant but the second, a yes
 one-line : (a : Answer) → OneOf (0 ∷ 2 ∷ 3 ∷ 4 ∷ 5 ∷ []) (tagOf the-type a) → 16 ≡ replySize a
-one-line (Yes f) k = absurd (miss (0 ∷ 2 ∷ 3 ∷ 4 ∷ 5 ∷ []) 1 tt k)
+one-line (Yes f x) k = absurd (miss (0 ∷ 2 ∷ 3 ∷ 4 ∷ 5 ∷ []) 1 tt k)
 one-line No k = refl
 one-line (Long f) k = refl
 one-line (Done n) k = refl

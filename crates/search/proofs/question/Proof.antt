@@ -52,8 +52,8 @@ settle-requires c κs =
     record {
       sorted = loaded-sorted _ (p .0) (p .1) _ _ (l .ensures .1) _ (p .2) (omega (arith, l .kept .1 .0));
       formed = rw (loaded-facts _ (p .0) (p .1) _ _ (l .ensures .1) _ (p .2)) (tableOf-accepted _ (p .0) .0 (p .1) .1 .formed);
-      limited = s .0;
-      room = s .1;
+      limited = s .1;
+      room = s .2;
     }
 
 returns : tie.Need-returns

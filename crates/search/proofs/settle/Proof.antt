@@ -1,6 +1,8 @@
 -- `search::settle` meets its contract: the chosen path's places are put in printed order and printed, where the count is within the limit.
 -- Assumes nothing.
+use mathlib.Core.Path.{ap, _∙_}
 use native.Mathlib.Omega.{arith}
+use Rattle.facts.specs.Gaps.{fillingOf}
 use Rattle.question.proofs.Places.{found-few, found-placed, print-placed, settle-long, settle-yes, settle-no}
 use borrow.Author.Needs.{needs}
 use Rattle.search.proofs.settle.Statement.{statement}
@@ -61,6 +63,9 @@ print-requires c κs =
       fits = omega (arith, z .pre .room, c .before .before .before .before .before .if1 .left);
     }
 
+filling-of-requires : tie.Need-filling-of-requires
+filling-of-requires c κs = search needs
+
 returns-2 : tie.Need-returns-2
 returns-2 c = settle-no _ _ _ _ _ (c .enum-told .given .1) (c .before .before .before .shortest .ensures) _ _
 
@@ -69,13 +74,14 @@ same-length c = search needs
 
 returns-3 : tie.Need-returns-3
 returns-3 c =
-    let z = c .before .before .before .before .before .before .before .before .before .before .before .before .before .before .before .before .before in
+    let z = c .before .before .before .before .before .before .before .before .before .before .before .before .before .before .before .before .before .before in
     let a = z .args in
-    let s = c .before .before .before .before .before .before .before .before .before .before .before .before .before .shortest in
-    let g = c .before .before .before .before .before .before .before .before .before .before .f .given in
-    settle-yes (a .row .now) (a .n) (a .t) _ (s .last .1 .1 .1 .0) (g .0 .0) (g .1) (s .ensures) _ _ _ _ (c .before .before .before .before .before .before .before .before .if1 .left)
+    let s = c .before .before .before .before .before .before .before .before .before .before .before .before .before .before .shortest in
+    let g = c .before .before .before .before .before .before .before .before .before .before .before .f .given in
+    let p = c .before .before .before .print .ensures in
+    settle-yes (a .row .now) (a .n) (a .t) _ (s .last .1 .1 .1 .0) (g .0 .0) (g .1) (s .ensures) _ _ _ _ _ (c .before .before .before .before .before .before .before .before .before .if1 .left)
     (z .pre .sorted .whole)
-    (c .before .before .before .before .before .before .print-order .ensures) (c .before .before .print .ensures)
+    (c .before .before .before .before .before .before .before .print-order .ensures) (c .filling-of .ensures ∙ ap (fillingOf (a .t)) (p .0)) (p .1)
 
 pub settle-spec : {M : Type 1} → statement M
 settle-spec =
@@ -91,6 +97,7 @@ settle-spec =
     print-order-requires
     slice-aggregate-print
     print-requires
+    filling-of-requires
     returns-2
     same-length
     returns-3)

@@ -10,20 +10,20 @@ use mir.Facts.{and-yes, yes-and}
 use borrow.Author.Needs.{needs}
 use Rattle.facts.proofs.Terms.{T-of}
 use Rattle.table.specs.Tables.{rowFact}
-use Rattle.rules.specs.Paths.{next, goal}
+use Rattle.rules.specs.Paths.{next, goalFor}
 use Rattle.question.proofs.Laws.{equal-or, most-or}
 use Rattle.search_back.proofs.first_end.Statement.{statement}
 use Rattle.search_back.proofs.first_end.Tie as tie
 
 abbrev Inv-loop : tie.InvT-loop
-Inv-loop row w t a best stop j₀ j = (j₀ ≤ j) × ((b : ℕ) → j₀ ≤ b → b < j → T (next w a (rowFact row b)) → T (goal t (rowFact row b)) → ⊥)
+Inv-loop row w t a best stop j₀ j = (j₀ ≤ j) × ((b : ℕ) → j₀ ≤ b → b < j → T (next w a (rowFact row b)) → T (goalFor t (rowFact row b)) → ⊥)
 
 abbrev μ-loop : tie.MeasureT-loop
 μ-loop row w t a best stop j₀ j = stop - j
 
 -- what the two tests say of the fact at j
 tests : (c : tie.After-follows Inv-loop μ-loop) → let a = c .before .before .before .before .before .before .before .args in let j = c .before .before .before .before .before .loop .j in
-    (goal (a .t) (rowFact (a .row .now) j) && next (a .w) (a .a) (rowFact (a .row .now) j)) ≡ (c .before .ends .result && c .follows .result)
+    (goalFor (a .t) (rowFact (a .row .now) j) && next (a .w) (a .a) (rowFact (a .row .now) j)) ≡ (c .before .ends .result && c .follows .result)
 tests c = rw (← c .before .before .row-fact .ensures, ← c .before .ends .ensures, ← c .follows .ensures)
 
 loop-holds : tie.Need-loop-holds Inv-loop μ-loop
@@ -45,7 +45,7 @@ returns-2 : tie.Need-returns-2 Inv-loop μ-loop
 returns-2 c =
     let l = c .before .before .before .before .before .before .loop in
     let a = c .before .before .before .before .before .before .before .before .args in
-    let x = and-yes (goal (a .t) (rowFact (a .row .now) (l .j))) (next (a .w) (a .a) (rowFact (a .row .now) (l .j))) (T-of _ (tests (c .before) ∙ c .if2 .taken)) in
+    let x = and-yes (goalFor (a .t) (rowFact (a .row .now) (l .j))) (next (a .w) (a .a) (rowFact (a .row .now) (l .j))) (T-of _ (tests (c .before) ∙ c .if2 .taken)) in
     record {
       most = omega (arith, c .before .before .before .before .if1 .left);
       is = inr (
@@ -66,10 +66,10 @@ loop-again : tie.Need-loop-again Inv-loop μ-loop
 loop-again c =
     let l = c .before .before .before .before .before .before .loop in
     let a = c .before .before .before .before .before .before .before .before .args in
-    let off : T (goal (a .t) (rowFact (a .row .now) (l .j)) && next (a .w) (a .a) (rowFact (a .row .now) (l .j))) → ⊥ = λ z. let v : T false = subst T (tests (c .before) ∙ c .if2 .left) z in v in (
+    let off : T (goalFor (a .t) (rowFact (a .row .now) (l .j)) && next (a .w) (a .a) (rowFact (a .row .now) (l .j))) → ⊥ = λ z. let v : T false = subst T (tests (c .before) ∙ c .if2 .left) z in v in (
       omega (arith, l .inv .0),
       λ b h u x y. equal-or b (l .j)
-          (λ e. off (yes-and (goal (a .t) (rowFact (a .row .now) (l .j))) (next (a .w) (a .a) (rowFact (a .row .now) (l .j))) (rw e at y) (rw e at x))) (λ e. l .inv .1 b h (omega (arith, e)) x y),
+          (λ e. off (yes-and (goalFor (a .t) (rowFact (a .row .now) (l .j))) (next (a .w) (a .a) (rowFact (a .row .now) (l .j))) (rw e at y) (rw e at x))) (λ e. l .inv .1 b h (omega (arith, e)) x y),
     )
 
 returns-3 : tie.Need-returns-3 Inv-loop μ-loop

@@ -8,7 +8,7 @@ use native.Mathlib.Omega.{arith}
 use lib.ListN.{getD}
 use borrow.Author.Needs.{needs}
 use Rattle.facts.specs.declared.Fact.{Fact}
-use Rattle.rules.specs.Paths.{next, goal}
+use Rattle.rules.specs.Paths.{next, goalFor}
 use Rattle.table.specs.Tables.{rowFact}
 use Rattle.question.specs.State.{PartOf}
 use Rattle.question.proofs.Laws.{holds-of, fails-of, holds-of-both, fails-of-both, room, to-most, most-or}
@@ -181,7 +181,7 @@ loop2-again c =
     let b = w .1 .ensures in
     let x = holds-of-both way (w .2 .ensures) a b (w .3 .taken) in
     rw (w .6) (
-      inner-push _ _ _ _ (l .j) few d h (w .0 .taken) x (fails-of (goal (z .args .t)) (w .4 .ensures) b (w .5 .left)),
+      inner-push _ _ _ _ (l .j) few d h (w .0 .taken) x (fails-of (goalFor (z .args .t)) (w .4 .ensures) b (w .5 .left)),
       note-more _ _ _ (inner-stays _ _ _ _ (l .j) few d h (w .0 .taken) x) (l .inv .1),
       l .inv .2,
       l .inv .3,
@@ -233,7 +233,7 @@ returns-2 c =
     left-met _ _ _ _ k _
     (inner-met _ _ _ _ (l .j) (z .pre .rising .few) (l .inv .0) (j-few (c .before .before .before .before .before .before .before)) (c .before .before .before .before .before .if1 .taken)
     (holds-of-both (next (z .args .w)) (c .before .before .before .follows .ensures)
-    (c .before .before .before .before .before .before .before .before .before .before .before .row-fact .ensures) b (c .before .before .if2 .taken)) (holds-of (goal (z .args .t))
+    (c .before .before .before .before .before .before .before .before .before .before .before .row-fact .ensures) b (c .before .before .if2 .taken)) (holds-of (goalFor (z .args .t))
     (c .before .ends .ensures) b (c .if3 .taken)))
 
 pub rounds-spec : {M : Type 1} → statement M

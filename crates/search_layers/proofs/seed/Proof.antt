@@ -5,7 +5,7 @@ use mathlib.Core.Path.{refl, sym, subst}
 use Prim.Native.Nat.{_+_, _-_, _<_}
 use native.Mathlib.Omega.{arith}
 use borrow.Author.Needs.{needs}
-use Rattle.rules.specs.Paths.{start, goal}
+use Rattle.rules.specs.Paths.{startFor, goalFor}
 use Rattle.question.specs.declared.State.{State}
 use Rattle.question.proofs.Laws.{holds-of, fails-of, room}
 use Rattle.question.proofs.Marks.{Seeding, seeding-begin, seeding-push, seeding-skip, seeding-met, seeding-end}
@@ -73,7 +73,7 @@ returns c =
     let e = d .before .before .row-fact .ensures in (
       refl,
       seeding-met _ _ _ _ (l .j) (l .s) (z .pre .few) (l .inv) (j-few (d .before .before .before))
-          (holds-of (start (z .args .w) (z .args .t)) (d .before .starts .ensures) e (d .if1 .taken)) (holds-of (goal (z .args .t)) (c .before .ends .ensures) e (c .if2 .taken)),
+          (holds-of (startFor (z .args .w) (z .args .t)) (d .before .starts .ensures) e (d .if1 .taken)) (holds-of (goalFor (z .args .t)) (c .before .ends .ensures) e (c .if2 .taken)),
     )
 
 add-j : tie.Need-add-j Inv-loop μ-loop
@@ -89,9 +89,9 @@ loop-again c =
     let e = c .before .before .row-fact .ensures in
     let goes : State → Type 0 = λ s. Seeding (z .args .row .now) (z .args .n) (z .args .w) (z .args .t) (l .j + 1) s in
     ⊎-elim
-    (λ w. subst goes (sym (w .3)) (seeding-push _ _ _ _ (l .j) (l .s) (z .pre .few) (l .inv) (j-few (c .before .before .before)) (holds-of (start (z .args .w) (z .args .t)) (c .before .starts .ensures) e (w .0 .taken))
-    (fails-of (goal (z .args .t)) (w .1 .ensures) e (w .2 .left))))
-    (λ w. subst goes (sym (w .1)) (seeding-skip _ _ _ _ (l .j) (l .s) (l .inv) (fails-of (start (z .args .w) (z .args .t)) (c .before .starts .ensures) e (w .0 .left))))
+    (λ w. subst goes (sym (w .3)) (seeding-push _ _ _ _ (l .j) (l .s) (z .pre .few) (l .inv) (j-few (c .before .before .before)) (holds-of (startFor (z .args .w) (z .args .t)) (c .before .starts .ensures) e (w .0 .taken))
+    (fails-of (goalFor (z .args .t)) (w .1 .ensures) e (w .2 .left))))
+    (λ w. subst goes (sym (w .1)) (seeding-skip _ _ _ _ (l .j) (l .s) (l .inv) (fails-of (startFor (z .args .w) (z .args .t)) (c .before .starts .ensures) e (w .0 .left))))
     (c .if1 .came)
 
 returns-2 : tie.Need-returns-2 Inv-loop μ-loop

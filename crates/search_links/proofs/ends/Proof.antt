@@ -1,7 +1,7 @@
--- `search_links::ends` meets its contract: the tests are those of `goal`.
+-- `search_links::ends` meets its contract: the tests are those of `goalFor`.
 -- Assumes nothing.
-use Rattle.rules.specs.Paths.{goal}
 use borrow.Author.Needs.{needs}
+use Rattle.rules.specs.Paths.{goalFor}
 use Rattle.search_links.proofs.ends.Statement.{statement}
 use Rattle.search_links.proofs.ends.Tie as tie
 
@@ -11,6 +11,9 @@ link-of-requires c κs = search needs
 link-of-requires-2 : tie.Need-link-of-requires-2
 link-of-requires-2 c κs = search needs
 
+fits-requires : tie.Need-fits-requires
+fits-requires c κs = search needs
+
 is-property-requires : tie.Need-is-property-requires
 is-property-requires c κs = search needs
 
@@ -18,8 +21,8 @@ is-property-requires-2 : tie.Need-is-property-requires-2
 is-property-requires-2 c κs = search needs
 
 returns : tie.Need-returns
-unfolding goal
-returns c = rw (c .before .before .before .link-of .ensures, c .before .before .link-of2 .ensures, c .before .is-property .ensures, c .is-property2 .ensures)
+unfolding goalFor
+returns c = rw (c .is-property2 .ensures, c .before .is-property .ensures, c .before .before .fits2 .ensures, c .before .before .before .link-of2 .ensures, c .before .before .before .before .link-of .ensures)
 
 pub ends-spec : {M : Type 1} → statement M
 ends-spec =
@@ -27,6 +30,7 @@ ends-spec =
     (tie.spec
     link-of-requires
     link-of-requires-2
+    fits-requires
     is-property-requires
     is-property-requires-2
     returns)

@@ -5,6 +5,9 @@ use Rattle.question.proofs.Ways.{starting-run}
 use Rattle.search_parts.proofs.starting.Statement.{statement}
 use Rattle.search_parts.proofs.starting.Tie as tie
 
+is-gap-requires : tie.Need-is-gap-requires
+is-gap-requires c κs = search needs
+
 returns : tie.Need-returns
 returns c = search needs
 
@@ -15,7 +18,8 @@ run-end-requires : tie.Need-run-end-requires
 run-end-requires c κs = search needs
 
 returns-2 : tie.Need-returns-2
-returns-2 c = starting-run _ _ _ _ _ _ (c .before .before .if1 .left) (c .before .lower-bound .ensures) (c .run-end .ensures)
+returns-2 c = starting-run _ _ _ _ _ _ (c .before .before .if1 .left) (c .before .before .before .is-gap .ensures) (c .before .lower-bound .ensures) (c .run-end .ensures)
 
 pub starting-spec : {M : Type 1} → statement M
-starting-spec = tie.close (tie.spec returns lower-bound-requires run-end-requires returns-2)
+starting-spec =
+    tie.close (tie.spec is-gap-requires returns lower-bound-requires run-end-requires returns-2)

@@ -17,7 +17,7 @@ use Rattle.rules.specs.Derivations.{derivationLine}
 use Rattle.rules.specs.Printed.{join}
 use Rattle.derivation.specs.Bytes.{lineBytes, derivationBytes}
 use Rattle.derivation.proofs.Bytes.{derivation-length}
-use Rattle.question.proofs.Printing.{over-over, bytesOf, resultAt, bytes-length, bytes-first, result-first, bytes-more, printing-below, join-below}
+use Rattle.question.proofs.Printing.{over-over, bytesOf, resultAt, bytes-length, bytes-first, result-first, result-last, bytes-more, printing-below, join-below}
 use Rattle.search_print.proofs.print.Statement.{statement}
 use Rattle.search_print.proofs.print.Tie as tie
 
@@ -223,13 +223,15 @@ returns c =
     let z = c .before .before .before .before .before .before .before .before .before .before .before .before .before in
     let l = c .before .loop in
     let g = factAt (z .args .row .now) (z .args .path .now) in
-    let k : l .k ≡ z .args .f = omega (arith, l .inv .1, c .loop-test .left) in
-    l .inv .5 ∙ rw k (ap (over (bytesOf g (z .args .f))) (first-line (c .before .before .before .before)) ∙ over-over (bytesOf g (z .args .f)) (bytesOf g 1) (z .args .out .now) (omega (
-      arith,
-      bytes-length g (z .args .f),
-      bytes-length g 1,
-      z .pre .placed .some,
-    )))
+    let k : l .k ≡ z .args .f = omega (arith, l .inv .1, c .loop-test .left) in (
+      l .inv .6 ∙ ap (resultAt g) k ∙ sym (result-last g (z .args .f) (z .pre .placed .some)),
+      l .inv .5 ∙ rw k (ap (over (bytesOf g (z .args .f))) (first-line (c .before .before .before .before)) ∙ over-over (bytesOf g (z .args .f)) (bytesOf g 1) (z .args .out .now) (omega (
+        arith,
+        bytes-length g (z .args .f),
+        bytes-length g 1,
+        z .pre .placed .some,
+      ))),
+    )
 
 pub print-spec : {M : Type 1} → statement M
 print-spec =

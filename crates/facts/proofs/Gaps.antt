@@ -1,0 +1,167 @@
+-- Laws of gaps: a question's triple earns no refusal exactly where it may be asked; a well-formed fact is filled by itself alone;
+-- what fills a gap is told by the term that stands there.
+-- Assumes nothing.
+use mathlib.Core.Path.{_≡_, refl, sym, ap, _∙_}
+use mathlib.Core.Logic.{_↔_, _⊎_, inl, inr}
+use mathlib.Core.Bool.{Bool, true, false, not, cond, _&&_, _||_, true≢false}
+use Prim.Native.Nat.{ℕ, _≤_}
+use native.Mathlib.Omega.{arith}
+use lib.Dec.{T}
+use Rattle.facts.specs.declared.Kind.{Kind}
+use Rattle.facts.specs.declared.Kind.the-variants.{NoTerm, Vocabulary, Name, Literal, BlankNode, Beyond}
+use Rattle.facts.specs.declared.Fact.{Fact}
+use Rattle.facts.specs.declared.Verdict.{Verdict}
+use Rattle.facts.specs.declared.Verdict.the-variants.{Sound, Faulty}
+use Rattle.facts.specs.Terms.{kindOf, isNoTerm, isVocabulary, isName, isLiteral, isBlank}
+use Rattle.facts.specs.Facts.{fact, isNode, isPredicate, wellFormed, hasNoTerm, hasBlank, misplaced}
+use Rattle.facts.specs.Gaps.{isGap, Fills, Askable, gapless, subject-gap, object-gap, overBlank, questionFault, fillingOf, termOr, filledBy}
+use Rattle.facts.proofs.Terms.{by-cases, T-of, of-T, of-F, none-of, node-kinds, predicate-kinds}
+use Rattle.facts.proofs.Facts.{fact-eq, parts, whole, terms-within, passed}
+
+-- a node, and a predicate, is no gap
+pub node-whole : (n : ℕ) → T (isNode n) → isGap n ≡ false
+unfolding isNode isGap
+node-whole n t = none-of (isNoTerm (kindOf n)) (isBlank (kindOf n)) (isVocabulary (kindOf n)) (rw (node-kinds (kindOf n)) at t) .1
+
+pub predicate-whole : (n : ℕ) → T (isPredicate n) → isGap n ≡ false
+unfolding isPredicate isGap
+predicate-whole n t = none-of (isNoTerm (kindOf n)) (isBlank (kindOf n)) (isLiteral (kindOf n)) (rw (predicate-kinds (kindOf n)) at t) .1
+
+-- a node is what is a term, no gap and no vocabulary
+node-is : (n : ℕ) → isNoTerm (kindOf n) ≡ false → isGap n ≡ false → isVocabulary (kindOf n) ≡ false → T (isNode n)
+unfolding isNode isGap
+node-is n a b c = rw (node-kinds (kindOf n), a, b, c) tt
+
+predicate-is : (n : ℕ) → isNoTerm (kindOf n) ≡ false → isGap n ≡ false → isLiteral (kindOf n) ≡ false → T (isPredicate n)
+unfolding isPredicate isGap
+predicate-is n a b c = rw (predicate-kinds (kindOf n), a, b, c) tt
+
+-- a gap is a term and in no wrong part
+blank-kind : (k : Kind) → isBlank k ≡ true → (isNoTerm k ≡ false) × (isVocabulary k ≡ false)
+blank-kind NoTerm e = absurd (true≢false (sym e))
+blank-kind Vocabulary e = absurd (true≢false (sym e))
+blank-kind Name e = absurd (true≢false (sym e))
+blank-kind Literal e = absurd (true≢false (sym e))
+blank-kind BlankNode e = (refl, refl)
+blank-kind Beyond e = absurd (true≢false (sym e))
+
+gap-kind : (n : ℕ) → isGap n ≡ true → (isNoTerm (kindOf n) ≡ false) × (isVocabulary (kindOf n) ≡ false)
+unfolding isGap
+gap-kind n e = blank-kind (kindOf n) e
+
+node-kind : (n : ℕ) → T (isNode n) → (isNoTerm (kindOf n) ≡ false) × (isVocabulary (kindOf n) ≡ false)
+unfolding isNode
+node-kind n t = let x = none-of (isNoTerm (kindOf n)) (isBlank (kindOf n)) (isVocabulary (kindOf n)) (rw (node-kinds (kindOf n)) at t) in (x .0, x .2)
+
+predicate-kind : (n : ℕ) → T (isPredicate n) → (isNoTerm (kindOf n) ≡ false) × (isLiteral (kindOf n) ≡ false)
+unfolding isPredicate
+predicate-kind n t = let x = none-of (isNoTerm (kindOf n)) (isBlank (kindOf n)) (isLiteral (kindOf n)) (rw (predicate-kinds (kindOf n)) at t) in (x .0, x .2)
+
+-- ---- what may be asked
+
+-- the tests of a triple whose predicate may be one, and whose subject and object are terms in no wrong part, but not both gaps
+tests-pass : (t : Fact) → T (isPredicate (t .predicate)) → (isNoTerm (kindOf (t .subject)) ≡ false) × (isVocabulary (kindOf (t .subject)) ≡ false)
+    → (isNoTerm (kindOf (t .object)) ≡ false) × (isVocabulary (kindOf (t .object)) ≡ false) → isGap (t .subject) && isGap (t .object) ≡ false → questionFault t ≡ Sound
+unfolding questionFault
+tests-pass t p s o g = let k = predicate-kind (t .predicate) p in rw (s .0, k .0, o .0, predicate-whole (t .predicate) p, g, s .1, o .1, k .1)
+
+and-false : (a b : Bool) → b ≡ false → a && b ≡ false
+and-false true b e = e
+and-false false b e = refl
+
+module _ (t : Fact) where
+  askable-sound : Askable t → questionFault t ≡ Sound
+  askable-sound (gapless w) =
+      let x = parts t w in tests-pass t (x .1) (node-kind _ (x .0)) (node-kind _ (x .2)) (and-false (isGap (t .subject)) _ (node-whole _ (x .2)))
+  askable-sound (subject-gap g x w) =
+      let y = parts (fact x (t .predicate) (t .object)) w in
+      tests-pass t (y .1) (gap-kind _ g) (node-kind _ (y .2)) (and-false (isGap (t .subject)) _ (node-whole _ (y .2)))
+  askable-sound (object-gap g x w) =
+      let y = parts (fact (t .subject) (t .predicate) x) w in
+      tests-pass t (y .1) (node-kind _ (y .0)) (gap-kind _ g) (rw (node-whole _ (y .0)))
+
+  sound-askable : questionFault t ≡ Sound → Askable t
+  unfolding questionFault
+  sound-askable e =
+      let a = passed (hasNoTerm t) _ _ e in
+      let b = passed (overBlank t) _ _ (a .1) in
+      let c = passed (misplaced t) _ _ (b .1) in
+      let x = none-of (isNoTerm (kindOf (t .subject))) (isNoTerm (kindOf (t .predicate))) (isNoTerm (kindOf (t .object))) (a .0) in
+      let y = none-of false (isGap (t .predicate)) (isGap (t .subject) && isGap (t .object)) (b .0) in
+      let z = none-of (isVocabulary (kindOf (t .subject))) (isVocabulary (kindOf (t .object))) (isLiteral (kindOf (t .predicate))) (c .0) in
+      let p = predicate-is (t .predicate) (x .1) (y .1) (z .2) in
+      by-cases (isGap (t .subject))
+      (λ g. let o = node-is (t .object) (x .2) (rw g at (y .2)) (z .1) in subject-gap g (t .object) (whole (fact (t .object) (t .predicate) (t .object)) o p o))
+      (λ g. let s = node-is (t .subject) (x .0) g (z .0) in by-cases (isGap (t .object))
+      (λ h. object-gap h (t .subject) (whole (fact (t .subject) (t .predicate) (t .subject)) s p s))
+      (λ h. gapless (whole t s p (node-is (t .object) (x .2) h (z .1)))))
+
+  -- a question's triple earns none of 3, 4, 5 exactly where it may be asked
+  pub question-none : questionFault t ≡ Sound ↔ Askable t
+  question-none = (sound-askable, askable-sound)
+
+-- ---- what fills a gap
+
+-- the predicate of what may be asked is one, and no gap
+pub askable-predicate : {t : Fact} → Askable t → T (isPredicate (t .predicate))
+askable-predicate {t} (gapless w) = parts t w .1
+askable-predicate {t} (subject-gap g x w) = parts (fact x (t .predicate) (t .object)) w .1
+askable-predicate {t} (object-gap g x w) = parts (fact (t .subject) (t .predicate) x) w .1
+
+-- its subject and its object, where they are no gap, are nodes
+pub askable-subject : {t : Fact} → Askable t → isGap (t .subject) ≡ false → T (isNode (t .subject))
+askable-subject {t} (gapless w) g = parts t w .0
+askable-subject {t} (subject-gap h x w) g = absurd (true≢false (sym h ∙ g))
+askable-subject {t} (object-gap h x w) g = parts (fact (t .subject) (t .predicate) x) w .0
+
+pub askable-object : {t : Fact} → Askable t → isGap (t .object) ≡ false → T (isNode (t .object))
+askable-object {t} (gapless w) g = parts t w .2
+askable-object {t} (subject-gap h x w) g = parts (fact x (t .predicate) (t .object)) w .2
+askable-object {t} (object-gap h x w) g = absurd (true≢false (sym h ∙ g))
+
+pub fills-predicate : {t u : Fact} → Askable t → Fills t u → u .predicate ≡ t .predicate
+fills-predicate {t} a f = f .predicate (predicate-whole _ (askable-predicate a))
+
+-- a well-formed fact is filled by itself alone
+pub fills-only : (t u : Fact) → T (wellFormed t) → Fills t u ↔ (u ≡ t)
+fills-only t u w =
+    let x = parts t w in (
+      λ f. fact-eq u t (f .subject (node-whole _ (x .0))) (f .predicate (predicate-whole _ (x .1))) (f .object (node-whole _ (x .2))),
+      λ e. rw e (record { formed = w; subject = λ g. refl; predicate = λ g. refl; object = λ g. refl }),
+    )
+
+-- it has no gap: no term is named, and nothing is put in
+pub gapless-names : (t u : Fact) → T (wellFormed t) → fillingOf t u ≡ 0
+unfolding fillingOf
+gapless-names t u w = let x = parts t w in rw (node-whole _ (x .0), node-whole _ (x .2))
+
+pub gapless-stays : (t : Fact) (x : ℕ) → T (wellFormed t) → filledBy t x ≡ t
+unfolding filledBy
+gapless-stays t x w = let y = parts t w in fact-eq (filledBy t x) t (rw (node-whole _ (y .0))) refl (rw (node-whole _ (y .2)))
+
+-- the term named, put into the gap, gives what fills it
+pub filled-back : {t u : Fact} → Askable t → Fills t u → filledBy t (fillingOf t u) ≡ u
+unfolding filledBy fillingOf
+filled-back {t} {u} a f =
+    by-cases (isGap (t .subject))
+    (λ g. by-cases (isGap (t .object)) (λ h. absurd (both a g h)) (λ h. fact-eq _ u (rw g) (sym (fills-predicate a f)) (rw h (sym (f .object h)))))
+    (λ g. by-cases (isGap (t .object))
+    (λ h. fact-eq _ u (rw g (sym (f .subject g))) (sym (fills-predicate a f)) (rw (g, h)))
+    (λ h. fact-eq _ u (rw g (sym (f .subject g))) (sym (fills-predicate a f)) (rw h (sym (f .object h)))))
+  where
+    both : Askable t → isGap (t .subject) ≡ true → isGap (t .object) ≡ true → ⊥
+    both (gapless w) g h = true≢false (sym g ∙ node-whole _ (parts t w .0))
+    both (subject-gap _ x w) g h = true≢false (sym h ∙ node-whole _ (parts (fact x (t .predicate) (t .object)) w .2))
+    both (object-gap _ x w) g h = true≢false (sym g ∙ node-whole _ (parts (fact (t .subject) (t .predicate) x) w .0))
+
+-- it fits 16 bits
+pub filling-within : (t u : Fact) → T (wellFormed u) → fillingOf t u ≤ 65535
+unfolding fillingOf
+filling-within t u w =
+    let x = terms-within u w in
+    by-cases (isGap (t .subject)) (λ g. rw g (x .0)) (λ g. by-cases (isGap (t .object)) (λ h. rw (g, h) (x .2)) (λ h. rw (g, h) (omega arith)))
+
+-- a triple without a blank has neither a blank predicate nor two blanks
+pub hasBlank-over : (t : Fact) → hasBlank t ≡ false → overBlank t ≡ false
+unfolding hasBlank overBlank isGap
+hasBlank-over t e = let x = none-of (isBlank (kindOf (t .subject))) (isBlank (kindOf (t .predicate))) (isBlank (kindOf (t .object))) (rw e tt) in rw (x .1, x .0)

@@ -1,0 +1,75 @@
+// A gap in a question (document 02, Point 1): which refusal its triple earns, and the term that fills the gap.
+use facts::Fact;
+use facts::Refusal;
+use facts::Verdict;
+use faults::has_no_term;
+use terms::is_gap;
+use terms::is_literal;
+use terms::is_vocabulary;
+use terms::kind_of;
+ghost use mathlib.Core.Path.{_≡_};
+ghost use Rattle.facts.specs.Facts.{misplaced};
+ghost use Rattle.facts.specs.Gaps.{overBlank, questionFault, fillingOf, termOr, filledBy};
+
+// What earns refusal 4 in a question: a blank predicate, or two blanks.
+fn is_over_blank(t: Fact) -> bool
+    ensures { λ r. ⌜ r ≡ overBlank t ⌝ }
+{
+    is_gap(t.predicate) | (is_gap(t.subject) & is_gap(t.object))
+}
+
+// What earns refusal 5: vocabulary as subject or object, or a literal as predicate.
+fn is_misplaced(t: Fact) -> bool
+    ensures { λ r. ⌜ r ≡ misplaced t ⌝ }
+{
+    is_vocabulary(kind_of(t.subject))
+        | is_vocabulary(kind_of(t.object))
+        | is_literal(kind_of(t.predicate))
+}
+
+// The first of refusals 3, 4 and 5 that a question's triple earns: one gap, as subject or object, earns none.
+pub fn question_fault(t: Fact) -> Verdict
+    ensures { λ r. ⌜ r ≡ questionFault t ⌝ }
+{
+    if has_no_term(t) {
+        return Verdict::Faulty(Refusal::Term);
+    }
+    if is_over_blank(t) {
+        return Verdict::Faulty(Refusal::Blank);
+    }
+    if is_misplaced(t) {
+        return Verdict::Faulty(Refusal::Part);
+    }
+    Verdict::Sound
+}
+
+// What stands in u where t has its gap, and 0 where t has none.
+pub fn filling_of(t: Fact, u: Fact) -> u32
+    ensures { λ r. ⌜ r ≡ fillingOf t u ⌝ }
+{
+    if is_gap(t.subject) {
+        return u.subject;
+    }
+    if is_gap(t.object) {
+        return u.object;
+    }
+    0
+}
+
+// A term, or x where it is a gap.
+fn term_or(x: u32, n: u32) -> u32
+    ensures { λ r. ⌜ r ≡ termOr x n ⌝ }
+{
+    if is_gap(n) { x } else { n }
+}
+
+// t with x in its gap.
+pub fn filled_by(t: Fact, x: u32) -> Fact
+    ensures { λ r. ⌜ r ≡ filledBy t x ⌝ }
+{
+    Fact {
+        subject: term_or(x, t.subject),
+        predicate: t.predicate,
+        object: term_or(x, t.object),
+    }
+}
