@@ -57,6 +57,10 @@ demo: built
 	echo
 	echo '== Its answer: 90 (yes), place 0, 4 table facts; then the derivation: rule, two premises, subject, predicate, object.'
 	target/bin/factbox < crates/factbox/stdin
+	echo
+	echo '== The same with a gap, some X is of type 12: 60000 for X. The last line of the derivation shows what fills it.'
+	sed '$$s/^   10/60000/' crates/factbox/stdin | tail -n 1
+	sed '$$s/^   10/60000/' crates/factbox/stdin | target/bin/factbox | sed -n '1p;$$p'
 	$(MAKE) --no-print-directory -s -C client demo
 
 bench: built

@@ -35,7 +35,7 @@ static void repeat(size_t at) {
 /* One change: text put in or over, bytes taken away, the end cut off, a byte 0, a line or its rest repeated, another digit. */
 static void change(void) {
     static const char *const texts[] = {" ", "\n", "\r", "\t", "#", "0", "9", "x", "\xef\xbb\xbf", "\xff", ",", ";",
-                                        "\r\n", "    0", "65536", "type"};
+                                        "\r\n", "    0", "65536", "type", "?", "60000"};
     size_t at = below(len + 1), rest = len - at, few = rest < 4 ? rest : 4;
     const char *text = texts[below(sizeof texts / sizeof *texts)];
     switch (below(9)) {

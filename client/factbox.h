@@ -7,7 +7,7 @@
  *   1 subclass, 2 subproperty, 3 domain, 4 range, 5 type      the vocabulary: predicates only
  *   6 to 39999                                                 names: subject, predicate or object
  *   40000 to 59999                                             literals: subject or object
- *   60000 to 65535                                             blank nodes: refused
+ *   60000 to 65535                                             blank nodes: a gap in a question; refused anywhere else
  *
  * A fact follows from a table if the table has it or if one of six rules gives it, from facts that follow. A rule has two
  * premises, in this order, and one result; all three must be facts as above. In the rules sc stands for predicate 1
@@ -30,9 +30,28 @@
  *   predicate
  *   object
  *
+ * A question may have a gap: one blank node, as subject or object. (FACTBOX_GAP 5 12) asks whether some X is of type 12. Any
+ * of 60000 to 65535 asks the same; the number has no meaning. A filling is a term that makes the triple a fact when it stands
+ * in the gap: a name or a literal. With a gap
+ * - yes names a filling that follows from as few table facts as any does. That number is the count, and the derivation ends
+ *   in the triple with this filling. Where several follow from equally few, it names one of them;
+ * - long has that number as its count too, and names none;
+ * - no says that no filling follows.
+ *
+ * Over the table "   10   13   20\n   11    1   12\n   13    2   14\n   14    3   11\n":
+ *
+ *   uint8_t output[FACTBOX_DERIVATION_LINE * (2 * 4 - 1)];     // factbox_output_size(4)
+ *   uint64_t r = factbox_question(table, 64, FACTBOX_GAP, 5, 12, 4, output, sizeof output);
+ *   if (factbox_number(r) == FACTBOX_YES) {                    // with count 4
+ *       unsigned x = factbox_filling(r);                       // 10: it is of type 12
+ *       size_t used = FACTBOX_DERIVATION_LINE * (2 * (size_t)factbox_count(r) - 1);
+ *       r = factbox_check(table, 64, x, 5, 12, output, used);  // FACTBOX_ACCEPTED, count 4
+ *   }
+ *
  * For every call:
  * - It ends, whatever it is given, and it needs no test of its input beforehand: what is wrong gets a refusal.
- * - The result has three numbers: number, place, count (factbox_number, factbox_place, factbox_count).
+ * - The result has four numbers: number, place, count, filling (factbox_number, factbox_place, factbox_count,
+ *   factbox_filling). The filling is 0 but for a yes to a question with a gap.
  * - A refusal (1 to 11) has count 0 and changes no lent memory.
  * - What is done is written from the front of the lent memory; what lies behind it keeps its value.
  * - A pointer may be NULL where its length is 0. Bytes may lie at any address; a row must be aligned for uint32_t.
@@ -57,7 +76,7 @@ enum {
     FACTBOX_SIZE = 1,       /* table not a multiple of 16 bytes, or above 16,384; row not a multiple of 3 numbers, or above 3,072 */
     FACTBOX_COLUMN = 2,     /* a field or the line end is not as laid out; place: the line */
     FACTBOX_TERM = 3,       /* a number is 0 or above 65535; place: the line, or 0 for the triple put */
-    FACTBOX_BLANK = 4,      /* a number is 60000 to 65535; place: the line, or 0 for the triple put */
+    FACTBOX_BLANK = 4,      /* a number is 60000 to 65535, where no gap may stand; place: the line, or 0 for the triple put */
     FACTBOX_PART = 5,       /* vocabulary as subject or object, or a literal as predicate; place: the line, or 0 for the triple put */
     FACTBOX_ORDER = 6,      /* a fact is not above the one before it; place: the line */
     FACTBOX_ALLOWANCE = 7,  /* the allowance is above 1,024 */
@@ -65,11 +84,14 @@ enum {
     FACTBOX_FORM = 9,       /* a derivation of 0 bytes, not a multiple of 31, or above 63,457; or, with its line as place, a badly laid out line */
     FACTBOX_STEP = 10,      /* a line is neither a table line nor a rule's result; place: the first such line */
     FACTBOX_END = 11,       /* the last line is not the triple put; place: the last line */
-    FACTBOX_YES = 90,       /* the triple follows, from no more table facts than allowed; count: the fewest it follows from */
-    FACTBOX_NO = 91,        /* the triple does not follow; count: 0 */
+    FACTBOX_YES = 90,       /* the triple follows, from no more table facts than allowed; count: the fewest it follows from; filling: of its gap */
+    FACTBOX_NO = 91,        /* the triple does not follow; with a gap, no filling follows; count: 0 */
     FACTBOX_LONG = 92,      /* the triple follows, but needs more table facts than allowed; count: the fewest it follows from */
     FACTBOX_ACCEPTED = 93   /* the derivation is accepted; count: its table lines */
 };
+
+/* A gap in a question. Any number from here to 65535 is the same gap. */
+enum { FACTBOX_GAP = 60000 };
 
 /* Sizes. */
 enum {
@@ -88,16 +110,19 @@ enum {
  * takes some 3,100 bytes on top of the call that needs it. */
 
 /* Whether (subject predicate object) follows from the table, from how few of its facts, and a derivation with that many.
+ * Subject or object may be a gap: then the count is the fewest over all fillings, and YES names one that it is the count of.
  * `limit` is the allowance: how many table facts it may take, 0 to 1,024. `output` has at least factbox_output_size(limit)
  * bytes. YES writes 2 * count - 1 lines of 31 bytes; nothing else writes.
- * Tried in this order: the table (1; then its lines, each for 2, 3, 4, 5, 6), the triple (3, 4, 5), 7, 8. */
+ * Tried in this order: the table (1; then its lines, each for 2, 3, 4, 5, 6); the triple, for 3 in all its terms, then 4 (a
+ * blank node as predicate, or two blank nodes, equal or not), then 5 in the terms that are no gap; 7; 8. */
 uint64_t factbox_question(const uint8_t *table, size_t table_len,
                           uint32_t subject, uint32_t predicate, uint32_t object,
                           uint32_t limit, uint8_t *output, size_t output_len);
 
 /* Whether the derivation is one of (subject predicate object) from the table. Unused lines and any sound order are accepted.
- * The count has all table lines, used or not; a fact that stands on two lines counts twice.
- * Tried in this order: the table, the triple (3, 4, 5), 9 over all lines, 10, 11. */
+ * The count has all table lines, used or not; a fact that stands on two lines counts twice. It takes no gap: for a question
+ * that had one, put the triple with its filling.
+ * Tried in this order: the table, the triple (3; 4, for any blank node; 5), 9 over all lines, 10, 11. */
 uint64_t factbox_check(const uint8_t *table, size_t table_len,
                        uint32_t subject, uint32_t predicate, uint32_t object,
                        const uint8_t *derivation, size_t derivation_len);
@@ -110,10 +135,13 @@ uint64_t factbox_read(const uint8_t *table, size_t table_len, uint32_t *row, siz
  * Tried in this order: 1; then the facts, each for 3, 4, 5, 6; 8. */
 uint64_t factbox_write(const uint32_t *row, size_t row_len, uint8_t *output, size_t output_len);
 
-/* The parts of a result: bits 0-7 number, 8-31 place, 32-47 count, 48-63 zero. */
+/* The parts of a result: bits 0-7 number, 8-31 place, 32-47 count, 48-63 filling. */
 static inline unsigned factbox_number(uint64_t result) { return (unsigned)(result & 0xff); }
 static inline unsigned factbox_place(uint64_t result) { return (unsigned)(result >> 8 & 0xffffff); }
 static inline unsigned factbox_count(uint64_t result) { return (unsigned)(result >> 32 & 0xffff); }
+
+/* What fills the gap, after a YES to a question that has one: a term, 6 to 59999. After anything else, 0. */
+static inline unsigned factbox_filling(uint64_t result) { return (unsigned)(result >> 48); }
 
 /* Bytes that a question with this allowance needs lent: 31 * (2 * limit - 1), and 0 for limit 0. */
 static inline size_t factbox_output_size(uint32_t limit) {

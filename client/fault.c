@@ -54,6 +54,7 @@ static const char *byte_words(const line *r, size_t at) {
     case '\t': return "a tab: fields are padded with spaces";
     case ',':
     case ';': return "a comma or semicolon: fields are padded with spaces";
+    case '?': return "a gap, which only a question may have";
     default: return "text that is no number";
     }
 }

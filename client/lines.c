@@ -1,9 +1,12 @@
 /* Lines that a person writes, read from a file: see lines.h. */
 #include "lines.h"
+#include "factbox.h"
 #include "words.h"
 
 #include <errno.h>
 #include <string.h>
+
+enum { FACT_FIELDS = 3, QUESTION_FIELDS = 4, PREDICATE = 1 };
 
 /* What went wrong last. */
 static char wrong[320];
@@ -70,18 +73,29 @@ static const char *decimal(const char *text, size_t len, uint32_t *value) {
     return NULL;
 }
 
-const char *field_value(const char *text, size_t len, int predicate, uint32_t *value) {
-    uint32_t vocabulary = predicate_number(text, len);
-    const char *why = decimal(text, len, value);
-    if (!why) return NULL;
-    if (vocabulary && predicate) {
-        *value = vocabulary;
-        return NULL;
-    }
-    if (vocabulary) why = "can only stand in the predicate's place";
-    else if (predicate && !is_digit(*text)) why = "is neither a number nor subclass, subproperty, domain, range or type";
+/* Whether `?` may stand at this place of a line of `count` fields. Which terms of a question may be gaps the box judges. */
+static int takes_gap(size_t place, size_t count) { return count == QUESTION_FIELDS && place < FACT_FIELDS; }
+
+/* Why a text is no field: for the reason given it is no number. */
+static const char *no_field(const char *text, size_t len, size_t place, size_t count, const char *why) {
+    if (predicate_number(text, len)) why = "can only stand in the predicate's place";
+    else if (len == 1 && *text == '?')
+        why = count == QUESTION_FIELDS ? "is a gap, which can't be the allowance" : "is a gap, which only a question may have";
+    else if (place == PREDICATE && !is_digit(*text))
+        why = "is neither a number nor subclass, subproperty, domain, range or type";
+    else if (*text == '?' && takes_gap(place, count)) why = "is no number, and a gap is ? alone";
     snprintf(wrong, sizeof wrong, "%s %s", quoted(text, len), why);
     return wrong;
+}
+
+const char *field_value(const char *text, size_t len, size_t place, size_t count, uint32_t *value) {
+    uint32_t vocabulary = place == PREDICATE ? predicate_number(text, len) : 0;
+    const char *why = decimal(text, len, value);
+    if (!why) return NULL;
+    if (vocabulary) *value = vocabulary;
+    else if (len == 1 && *text == '?' && takes_gap(place, count)) *value = FACTBOX_GAP;
+    else return no_field(text, len, place, count, why);
+    return NULL;
 }
 
 int layout_field(const char *text, uint32_t *value) {
@@ -94,8 +108,11 @@ int layout_field(const char *text, uint32_t *value) {
 /* All fields in the box's layout; 0 if they are not as laid out. */
 static int layout_fields(const char *text, size_t len, size_t count, uint32_t *fields) {
     if (len != FIELD_COLUMNS * count) return 0;
-    for (size_t i = 0; i < count; i++)
-        if (!layout_field(text + FIELD_COLUMNS * i, &fields[i])) return 0;
+    for (size_t i = 0; i < count; i++, text += FIELD_COLUMNS) {
+        int gap = takes_gap(i, count) && memcmp(text, "    ?", FIELD_COLUMNS) == 0;
+        if (gap) fields[i] = FACTBOX_GAP;
+        else if (!layout_field(text, &fields[i])) return 0;
+    }
     return 1;
 }
 
@@ -108,13 +125,14 @@ const char *line_fields(const char *text, size_t len, size_t count, uint32_t *fi
         end = at + 1;
         if (is_separator(text[at])) continue;
         while (end < len && !is_separator(text[end])) end++;
-        const char *why = found < count ? field_value(text + at, end - at, found == 1, &fields[found]) : NULL;
+        const char *why = found < count ? field_value(text + at, end - at, found, count, &fields[found]) : NULL;
         if (why) return why;
         found++;
     }
     if (found == count) return NULL;
-    snprintf(wrong, sizeof wrong, "%zu field%s: %s", found, plural(found),
-             count == 3 ? "a fact is subject, predicate, object" : "a question is subject, predicate, object, allowance");
+    const char *what = count == FACT_FIELDS ? "a fact is subject, predicate, object"
+                                            : "a question is subject, predicate, object, allowance";
+    snprintf(wrong, sizeof wrong, "%zu field%s: %s", found, plural(found), what);
     return wrong;
 }
 

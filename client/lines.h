@@ -1,9 +1,10 @@
 /* Lines that a person writes, read from a file.
  *
  * A line has fields: numbers, or in the predicate's place one of the words subclass, subproperty, domain, range, type.
- * Between them stand spaces, tabs, commas or semicolons. A line as the box lays it out, in fields of five columns that may
- * touch, is read as well. `#` begins a comment. Blank lines, a carriage return before the line end, and a byte order mark
- * before the first line are passed over. */
+ * A question's triple may have `?` for a gap. Between the fields stand spaces, tabs, commas or semicolons. A line as the box
+ * lays it out, in fields of five columns that may touch, is read as well, also with `?` at the right of its columns. `#`
+ * begins a comment. Blank lines, a carriage return before the line end, and a byte order mark before the first line are
+ * passed over. */
 #ifndef LINES_H
 #define LINES_H
 
@@ -29,12 +30,12 @@ lines open_lines(const char *name);
  * read ends the program. */
 int next_line(lines *in);
 
-/* The `count` fields of a line's text: 3 are a fact's, 4 a question's. Gives NULL, or what is wrong; that holds until the
- * next call. */
+/* The `count` fields of a line's text: 3 are a fact's, 4 a question's. A gap is FACTBOX_GAP. Gives NULL, or what is wrong;
+ * that holds until the next call. */
 const char *line_fields(const char *text, size_t len, size_t count, uint32_t *fields);
 
-/* One field; a predicate's may be a word. Gives NULL, or what is wrong; that holds until the next call. */
-const char *field_value(const char *text, size_t len, int predicate, uint32_t *value);
+/* One of the `count` fields, the one at `place`, from 0. Gives NULL, or what is wrong; that holds until the next call. */
+const char *field_value(const char *text, size_t len, size_t place, size_t count, uint32_t *value);
 
 /* The length of a line's text without its comment and what may stand at its end. */
 size_t trimmed(const char *text, size_t len);

@@ -6,7 +6,8 @@
  *
  * The table is tried first, also where no question follows. If it is refused, the screen shows the line and what is
  * probably wrong with it, and ends. A question is written as lines.h says: numbers apart, or in the box's own layout; the
- * predicate may be a word. One that can't be read is named on standard error with file and line, and the next are answered.
+ * predicate may be a word, and `?` (or 60000 to 65535) as subject or object asks for a term that may stand there. One that
+ * can't be read is named on standard error with file and line, and the next are answered.
  *
  * Exit status: 0 all was answered; 1 the table, a question or the derivation was refused; 2 bad usage, a question that
  * can't be read, a file that can't be read, a failed write, or a derivation of the box that its own check does not accept.
@@ -41,10 +42,10 @@ static void headline(const char *word, const char *colour) {
     printf("%s%-9s%s", terminal ? colour : "", word, terminal ? "\033[0m" : "");
 }
 
-/* The answer in one word, then the fact put. */
-static void answer(const char *word, const char *colour, const uint32_t *fact) {
+/* The answer in one word, then what was put. */
+static void answer(const char *word, const char *colour, const char *put) {
     headline(word, colour);
-    printf("%u %s %u: ", (unsigned)fact[0], predicate_word(fact[1]), (unsigned)fact[2]);
+    printf("%s: ", put);
 }
 
 /* Brings what was shown to where it goes. If that fails, nothing was answered. */
@@ -52,14 +53,14 @@ static void flush(void) {
     if (fflush(stdout) || ferror(stdout)) fail("can't be written", "standard output");
 }
 
-/* Says what was refused and where. The table was sound, so the place is a line of the derivation. */
-static void show_refusal(uint64_t result, const uint32_t *fact) {
+/* Says what was refused and where; if its terms were, why. The table was sound, so the place is a line of the derivation. */
+static void show_refusal(uint64_t result, const char *put, const char *why) {
     unsigned number = factbox_number(result), place = factbox_place(result);
-    answer("REFUSED", RED, fact);
+    answer("REFUSED", RED, put);
     printf("%u %s", number, refusal_words(number));
     if (place > 0) printf(" (derivation line %u)", place);
     printf("\n");
-    if (number >= FACTBOX_TERM && number <= FACTBOX_PART) printf("  %s\n", fact_fault(number, fact));
+    if (number >= FACTBOX_TERM && number <= FACTBOX_PART) printf("  %s\n", why);
 }
 
 /* A field of a line that the library printed or accepted. */
@@ -79,39 +80,45 @@ static void show_derivation(const uint8_t *at, size_t count) {
     }
 }
 
-/* Shows a yes, after the check has accepted its derivation. */
-static int show_yes(const uint32_t *fact, unsigned count) {
-    size_t printed = 2 * (size_t)count - 1;
-    size_t len = printed * FACTBOX_DERIVATION_LINE;
-    uint64_t verdict = factbox_check(table, table_len, fact[0], fact[1], fact[2], derivation, len);
+/* Whether the question has a gap. */
+static int has_gap(const uint32_t *question) { return is_blank(question[0]) || is_blank(question[2]); }
+
+/* Shows a yes, after the check has accepted its derivation for the question with its gap filled. */
+static int show_yes(const uint32_t *question, unsigned count, unsigned filling) {
+    size_t printed = 2 * (size_t)count - 1, len = printed * FACTBOX_DERIVATION_LINE;
+    uint32_t subject = is_blank(question[0]) ? filling : question[0], object = is_blank(question[2]) ? filling : question[2];
+    uint64_t verdict = factbox_check(table, table_len, subject, question[1], object, derivation, len);
     if (factbox_number(verdict) != FACTBOX_ACCEPTED || factbox_count(verdict) != count) {
-        answer("FAULT", RED, fact);
+        answer("FAULT", RED, question_words(question));
         printf("the check does not accept the derivation\n");
         return FAILED;
     }
-    answer("YES", GREEN, fact);
+    answer("YES", GREEN, question_words(question));
+    if (has_gap(question)) printf("%u, ", filling);
     printf("from %u table fact%s\n", count, plural(count));
     show_derivation(derivation, printed);
     return ANSWERED;
 }
 
 /* Puts the question and shows the answer. */
-static int ask(const uint32_t *fact, uint32_t allowance) {
+static int ask(const uint32_t *question, uint32_t allowance) {
     size_t room = allowance <= FACTBOX_FACTS_MAX ? factbox_output_size(allowance) : 0;
-    uint64_t result = factbox_question(table, table_len, fact[0], fact[1], fact[2], allowance, derivation, room);
-    unsigned count = factbox_count(result);
-    switch (factbox_number(result)) {
-    case FACTBOX_YES: return show_yes(fact, count);
+    uint64_t result =
+        factbox_question(table, table_len, question[0], question[1], question[2], allowance, derivation, room);
+    unsigned number = factbox_number(result), count = factbox_count(result);
+    const char *put = question_words(question);
+    switch (number) {
+    case FACTBOX_YES: return show_yes(question, count, factbox_filling(result));
     case FACTBOX_NO:
-        answer("NO", RED, fact);
-        printf("does not follow from the table\n");
+        answer("NO", RED, put);
+        printf("%s from the table\n", has_gap(question) ? "no such X follows" : "does not follow");
         return ANSWERED;
     case FACTBOX_LONG:
-        answer("LONG", YELLOW, fact);
+        answer("LONG", YELLOW, put);
         printf("takes %u table fact%s, %u allowed\n", count, plural(count), (unsigned)allowance);
         return ANSWERED;
     default:
-        show_refusal(result, fact);
+        show_refusal(result, put, number == FACTBOX_BLANK ? gap_fault(question) : fact_fault(number, question));
         return REFUSED;
     }
 }
@@ -131,18 +138,18 @@ static int ask_all(lines questions) {
 
 static int check(const char *name, char **triple) {
     uint32_t fact[3];
-    for (int i = 0; i < 3; i++) {
-        const char *wrong = field_value(triple[i], strlen(triple[i]), i == 1, &fact[i]);
+    for (size_t i = 0; i < 3; i++) {
+        const char *wrong = field_value(triple[i], strlen(triple[i]), i, 3, &fact[i]);
         if (wrong) fail(wrong, FIELD_NAMES[i]);
     }
     size_t len = load(name, derivation, sizeof derivation);
     uint64_t result = factbox_check(table, table_len, fact[0], fact[1], fact[2], derivation, len);
     unsigned count = factbox_count(result);
     if (factbox_number(result) != FACTBOX_ACCEPTED) {
-        show_refusal(result, fact);
+        show_refusal(result, fact_words(fact), fact_fault(factbox_number(result), fact));
         return REFUSED;
     }
-    answer("ACCEPTED", GREEN, fact);
+    answer("ACCEPTED", GREEN, fact_words(fact));
     printf("%u table line%s\n", count, plural(count));
     show_derivation(derivation, len / FACTBOX_DERIVATION_LINE);
     return ANSWERED;

@@ -3,9 +3,9 @@
  *   table [-o TABLE] [LINES..]     makes one table of all lines of the files (or of standard input)
  *   table -w [-o LINES] TABLE      prints a table, its predicates in words, as lines that `table` reads again
  *
- * A line is one fact, subject, predicate and object, written as lines.h says. The facts are sorted, repeats dropped, the
- * numbers padded. The result goes to standard output, or to the file named with -o, which may be one of those read.
- * Standard error has how many facts it is, or, with file and line, each line that can't be taken.
+ * A line is one fact, subject, predicate and object, written as lines.h says; a fact has no gap. The facts are sorted,
+ * repeats dropped, the numbers padded. The result goes to standard output, or to the file named with -o, which may be one of
+ * those read. Standard error has how many facts it is, or, with file and line, each line that can't be taken.
  *
  * Exit status: 0 done; 1 a line or the table was refused, and nothing is written or opened for writing; 2 bad usage, a file
  * that can't be read, or a failed write, after which a file named with -o is as it was. */

@@ -1,5 +1,5 @@
-/* The values of the C interface: the example and cases of document 01 (the customer's paper), every number once, and the
- * parts of a result. */
+/* The values of the C interface: the example and cases of document 01 (the customer's paper), every number once, questions
+ * with a gap, and the parts of a result. */
 #include "factbox.h"
 #include "test.h"
 
@@ -9,11 +9,16 @@ static const uint8_t *bytes(const char *text) { return (const uint8_t *)text; }
 
 static uint64_t result(uint64_t number, uint64_t place, uint64_t count) { return number | place << 8 | count << 32; }
 
-/* Questions with their answers. */
-static const struct {
+/* A yes that names what fills the gap. */
+static uint64_t filled(uint64_t count, uint64_t filling) { return result(FACTBOX_YES, 0, count) | filling << 48; }
+
+/* A question with its answer. */
+typedef struct {
     const char *table;
     uint32_t s, p, o, limit, number, place, count;
-} CASES[] = {
+} question;
+
+static const question CASES[] = {
     {"", 10, 1, 11, 4, FACTBOX_NO, 0, 0},
     {EXAMPLE_TABLE, 10, 5, 12, 4, FACTBOX_YES, 0, 4},
     {EXAMPLE_TABLE, 10, 5, 12, 3, FACTBOX_LONG, 0, 4},
@@ -33,7 +38,6 @@ static const struct {
     {"   10    160000\n", 10, 1, 59999, 4, FACTBOX_BLANK, 1, 0},
     {"   10    165536\n", 10, 1, 59999, 4, FACTBOX_TERM, 1, 0},
     {EXAMPLE_TABLE, 10, 40000, 11, 4, FACTBOX_PART, 0, 0},
-    {EXAMPLE_TABLE, 10, 1, 60000, 4, FACTBOX_BLANK, 0, 0},
     {EXAMPLE_TABLE, 10, 1, 65536, 4, FACTBOX_TERM, 0, 0},
     {EXAMPLE_TABLE, 10, 5, 65536 + 12, 4, FACTBOX_TERM, 0, 0},
     {"   10   13   2\n", 10, 5, 12, 4, FACTBOX_SIZE, 0, 0},
@@ -42,16 +46,113 @@ static const struct {
     {EXAMPLE_TABLE, 10, 5, 12, 5, FACTBOX_SHORT, 0, 0},
 };
 
+/* A property 7 of 6 and 8: the range 9 of 7 is nearer than the domain 9 of 17, which is above 7. */
+#define NEARER_BY_RANGE "    6    7    8\n    7    2   17\n    7    4    9\n   17    3    9\n"
+
+#define RING "   10    1   11\n   11    1   10\n"
+#define THROUGH_LITERAL "    6    7    8\n    7    240000\n40000    2    9\n"
+
+/* Questions with a gap that no more than one term fills from so few facts, and that term. */
+static const struct {
+    question q;
+    uint32_t filling;
+} GAPS[] = {
+    {{EXAMPLE_TABLE, FACTBOX_GAP, 5, 12, 4, FACTBOX_YES, 0, 4}, 10},
+    {{EXAMPLE_TABLE, 65535, 5, 12, 4, FACTBOX_YES, 0, 4}, 10},
+    {{EXAMPLE_TABLE, FACTBOX_GAP, 5, 12, 3, FACTBOX_LONG, 0, 4}, 0},
+    {{EXAMPLE_TABLE, FACTBOX_GAP, 5, 12, 0, FACTBOX_LONG, 0, 4}, 0},
+    {{EXAMPLE_TABLE, FACTBOX_GAP, 5, 13, 4, FACTBOX_NO, 0, 0}, 0},
+    {{"", FACTBOX_GAP, 1, 11, 4, FACTBOX_NO, 0, 0}, 0},
+    {{EXAMPLE_TABLE, 10, 5, FACTBOX_GAP, 4, FACTBOX_YES, 0, 3}, 11},
+    {{EXAMPLE_TABLE, 10, 5, 65535, 3, FACTBOX_YES, 0, 3}, 11},
+    {{EXAMPLE_TABLE, 10, 5, FACTBOX_GAP, 2, FACTBOX_LONG, 0, 3}, 0},
+    {{EXAMPLE_TABLE, 10, 13, FACTBOX_GAP, 4, FACTBOX_YES, 0, 1}, 20},
+    {{EXAMPLE_TABLE, 10, 14, FACTBOX_GAP, 4, FACTBOX_YES, 0, 2}, 20},
+    {{EXAMPLE_TABLE, FACTBOX_GAP, 14, 20, 4, FACTBOX_YES, 0, 2}, 10},
+    {{EXAMPLE_TABLE, FACTBOX_GAP, 1, 12, 4, FACTBOX_YES, 0, 1}, 11},
+    {{EXAMPLE_TABLE, 12, 1, FACTBOX_GAP, 4, FACTBOX_NO, 0, 0}, 0},
+    {{EXAMPLE_TABLE, FACTBOX_GAP, 3, 11, 4, FACTBOX_YES, 0, 1}, 14},
+    {{EXAMPLE_TABLE, 13, 3, FACTBOX_GAP, 4, FACTBOX_NO, 0, 0}, 0},
+    /* by range it is the data fact's object, and only that */
+    {{"   10   13   20\n   13    4   16\n", FACTBOX_GAP, 5, 16, 4, FACTBOX_YES, 0, 2}, 20},
+    {{"   10   13   20\n   13    4   16\n", 20, 5, FACTBOX_GAP, 4, FACTBOX_YES, 0, 2}, 16},
+    {{"   10   13   20\n   13    4   16\n", 10, 5, FACTBOX_GAP, 4, FACTBOX_NO, 0, 0}, 0},
+    {{NEARER_BY_RANGE, FACTBOX_GAP, 5, 9, 4, FACTBOX_YES, 0, 2}, 8},
+    /* the fewest facts, not the first filling that is within the allowance */
+    {{"    6    7    8\n    7    3    9\n   10    5    9\n", FACTBOX_GAP, 5, 9, 4, FACTBOX_YES, 0, 1}, 10},
+    /* the other end fills the gap by a table fact only, since a way round is longer */
+    {{RING, FACTBOX_GAP, 1, 10, 4, FACTBOX_YES, 0, 1}, 11},
+    {{RING, 10, 1, FACTBOX_GAP, 4, FACTBOX_YES, 0, 1}, 11},
+    {{"   10    1   10\n", FACTBOX_GAP, 1, 10, 4, FACTBOX_YES, 0, 1}, 10},
+    /* literals */
+    {{"   10    159999\n", 10, 1, FACTBOX_GAP, 4, FACTBOX_YES, 0, 1}, 59999},
+    {{"40000    5   12\n", FACTBOX_GAP, 5, 12, 4, FACTBOX_YES, 0, 1}, 40000},
+    {{THROUGH_LITERAL, FACTBOX_GAP, 9, 8, 4, FACTBOX_YES, 0, 3}, 6},
+    {{THROUGH_LITERAL, 6, 9, FACTBOX_GAP, 4, FACTBOX_YES, 0, 3}, 8},
+    {{THROUGH_LITERAL, 7, 2, FACTBOX_GAP, 4, FACTBOX_YES, 0, 1}, 40000},
+    /* refusals: 3 over the whole width, then 4, then 5 in the other terms, 7, 8; the table's before them */
+    {{EXAMPLE_TABLE, 0, FACTBOX_GAP, 7, 4, FACTBOX_TERM, 0, 0}, 0},
+    {{EXAMPLE_TABLE, FACTBOX_GAP, 5, 65536, 4, FACTBOX_TERM, 0, 0}, 0},
+    {{EXAMPLE_TABLE, FACTBOX_GAP, 0, FACTBOX_GAP, 4, FACTBOX_TERM, 0, 0}, 0},
+    {{EXAMPLE_TABLE, FACTBOX_GAP, 5, FACTBOX_GAP, 4, FACTBOX_BLANK, 0, 0}, 0},
+    {{EXAMPLE_TABLE, FACTBOX_GAP, 5, 65535, 4, FACTBOX_BLANK, 0, 0}, 0},
+    {{EXAMPLE_TABLE, 10, FACTBOX_GAP, 12, 4, FACTBOX_BLANK, 0, 0}, 0},
+    {{EXAMPLE_TABLE, FACTBOX_GAP, FACTBOX_GAP, 12, 4, FACTBOX_BLANK, 0, 0}, 0},
+    {{EXAMPLE_TABLE, 10, 65535, FACTBOX_GAP, 4, FACTBOX_BLANK, 0, 0}, 0},
+    {{EXAMPLE_TABLE, 3, FACTBOX_GAP, 12, 4, FACTBOX_BLANK, 0, 0}, 0},
+    {{EXAMPLE_TABLE, FACTBOX_GAP, 40000, 7, 4, FACTBOX_PART, 0, 0}, 0},
+    {{EXAMPLE_TABLE, 7, 59999, FACTBOX_GAP, 4, FACTBOX_PART, 0, 0}, 0},
+    {{EXAMPLE_TABLE, 3, 7, FACTBOX_GAP, 4, FACTBOX_PART, 0, 0}, 0},
+    {{EXAMPLE_TABLE, FACTBOX_GAP, 7, 5, 4, FACTBOX_PART, 0, 0}, 0},
+    {{EXAMPLE_TABLE, FACTBOX_GAP, 5, 12, 1025, FACTBOX_ALLOWANCE, 0, 0}, 0},
+    {{EXAMPLE_TABLE, FACTBOX_GAP, 5, 12, 5, FACTBOX_SHORT, 0, 0}, 0},
+    {{"   10    160000\n", FACTBOX_GAP, 1, 60000, 4, FACTBOX_BLANK, 1, 0}, 0},
+};
+
+/* Puts a question, and a derivation behind a yes to the check, for the triple with its gap filled. */
+static void put(const question *q, uint32_t filling, const char *list, size_t at) {
+    uint8_t output[31 * 7];
+    const uint8_t *table = bytes(q->table);
+    size_t len = strlen(q->table);
+    uint64_t r = factbox_question(table, len, q->s, q->p, q->o, q->limit, output, sizeof output);
+    uint64_t accepted = result(FACTBOX_ACCEPTED, 0, q->count);
+    uint32_t s = q->s >= FACTBOX_GAP ? filling : q->s, o = q->o >= FACTBOX_GAP ? filling : q->o;
+    int right = r == (result(q->number, q->place, q->count) | (uint64_t)filling << 48);
+    if (right && q->number == FACTBOX_YES)
+        right = factbox_check(table, len, s, q->p, o, output, 31 * (2 * (size_t)q->count - 1)) == accepted;
+    if (right) return;
+    fprintf(stderr, "%s %zu: %u place %u count %u filling %u\n", list, at, factbox_number(r), factbox_place(r),
+            factbox_count(r), factbox_filling(r));
+    failures++;
+}
+
 static void cases(void) {
-    for (size_t i = 0; i < sizeof CASES / sizeof *CASES; i++) {
-        uint8_t output[31 * 7];
-        uint64_t r = factbox_question(bytes(CASES[i].table), strlen(CASES[i].table), CASES[i].s, CASES[i].p, CASES[i].o,
-                                      CASES[i].limit, output, sizeof output);
-        if (r != result(CASES[i].number, CASES[i].place, CASES[i].count)) {
-            fprintf(stderr, "case %zu: %u place %u count %u\n", i, factbox_number(r), factbox_place(r), factbox_count(r));
-            failures++;
-        }
-    }
+    for (size_t i = 0; i < sizeof CASES / sizeof *CASES; i++) put(&CASES[i], 0, "case", i);
+    for (size_t i = 0; i < sizeof GAPS / sizeof *GAPS; i++) put(&GAPS[i].q, GAPS[i].filling, "gap", i);
+}
+
+/* The question of the header: what is printed is the derivation of the filled triple. The check takes no gap. */
+static void gap_example(void) {
+    const uint8_t *table = bytes(EXAMPLE_TABLE);
+    uint8_t output[31 * 7 + 1] = {0};
+    uint64_t r = factbox_question(table, 64, FACTBOX_GAP, 5, 12, 4, output, factbox_output_size(4));
+    EXPECT(r == filled(4, 10) && factbox_filling(r) == 10 && factbox_count(r) == 4);
+    EXPECT(strcmp((char *)output, EXAMPLE_DERIVATION) == 0);
+    EXPECT(factbox_check(table, 64, FACTBOX_GAP, 5, 12, output, 31 * 7) == result(FACTBOX_BLANK, 0, 0));
+    EXPECT(factbox_check(table, 64, 10, 5, 65535, output, 31 * 7) == result(FACTBOX_BLANK, 0, 0));
+    EXPECT(factbox_check(table, 64, 10, FACTBOX_GAP, 12, output, 31 * 7) == result(FACTBOX_BLANK, 0, 0));
+    EXPECT(factbox_check(table, 64, 11, 5, 12, output, 31 * 7) == result(FACTBOX_END, 7, 0));
+    memcpy(output + 31 * 6 + 15, "60000", 5);
+    EXPECT(factbox_check(table, 64, 10, 5, 12, output, 31 * 7) == result(FACTBOX_STEP, 7, 0));
+}
+
+/* Several terms fill the gap from equally few facts: the one named is the one derived. */
+static void tie(void) {
+    const uint8_t *table = bytes("    6    5   10\n    7    5   10\n    8    5   11\n");
+    uint8_t output[31];
+    uint64_t r = factbox_question(table, 48, FACTBOX_GAP, 5, 10, 1, output, sizeof output);
+    EXPECT(r == filled(1, 6) || r == filled(1, 7));
+    EXPECT(factbox_check(table, 48, factbox_filling(r), 5, 10, output, 31) == result(FACTBOX_ACCEPTED, 0, 1));
 }
 
 static void example(void) {
@@ -92,11 +193,29 @@ static void limits(void) {
     r = factbox_check(table, sizeof table, 7, 1, 1030, lines, sizeof lines);
     EXPECT(factbox_number(r) == 11 && factbox_place(r) == 2047 && factbox_count(r) == 0);
     EXPECT(factbox_place(0xffffff00) == 0xffffff && factbox_count(0xffff00000000) == 0xffff && factbox_number(0xffff00) == 0);
+    EXPECT(factbox_filling(0xffffull << 48) == 0xffff && factbox_filling(UINT64_MAX >> 16) == 0);
+    EXPECT(factbox_count(0xffffull << 48) == 0);
+}
+
+/* With a gap the count may be as large; the filling here is the largest. */
+static void gap_limits(void) {
+    static uint8_t table[FACTBOX_TABLE_MAX], lines[FACTBOX_DERIVATION_MAX];
+    static uint32_t row[FACTBOX_ROW_MAX];
+    for (uint32_t i = 0; i < FACTBOX_FACTS_MAX; i++) row[3 * i] = 7 + i, row[3 * i + 1] = 1, row[3 * i + 2] = 8 + i;
+    row[FACTBOX_ROW_MAX - 3] = 59999, row[FACTBOX_ROW_MAX - 2] = 5, row[FACTBOX_ROW_MAX - 1] = 7;
+    EXPECT(factbox_write(row, FACTBOX_ROW_MAX, table, sizeof table) == result(FACTBOX_DONE, 0, 1024));
+    EXPECT(factbox_question(table, sizeof table, FACTBOX_GAP, 5, 1030, 1024, lines, sizeof lines) == filled(1024, 59999));
+    EXPECT(factbox_check(table, sizeof table, 59999, 5, 1030, lines, sizeof lines) == result(FACTBOX_ACCEPTED, 0, 1024));
+    uint64_t r = factbox_question(table, sizeof table, FACTBOX_GAP, 5, 1030, 1023, lines, sizeof lines);
+    EXPECT(r == result(FACTBOX_LONG, 0, 1024));
 }
 
 int main(void) {
     cases();
     example();
+    gap_example();
+    tie();
     limits();
+    gap_limits();
     return finish("test_cases");
 }

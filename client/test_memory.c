@@ -75,6 +75,9 @@ static void empty_and_null(void) {
         EXPECT(factbox_question(e, 0, 10, 1, 11, 0, out, 0) == FACTBOX_NO);
         EXPECT(factbox_question(e, 0, 10, 1, 11, 1, out, 0) == FACTBOX_SHORT);
         EXPECT(factbox_question(table, 64, 10, 5, 12, 0, out, 0) == (FACTBOX_LONG | 4ull << 32));
+        EXPECT(factbox_question(e, 0, FACTBOX_GAP, 1, 11, 0, out, 0) == FACTBOX_NO);
+        EXPECT(factbox_question(e, 0, FACTBOX_GAP, 1, 11, 1, out, 0) == FACTBOX_SHORT);
+        EXPECT(factbox_question(table, 64, FACTBOX_GAP, 5, 12, 0, out, 0) == (FACTBOX_LONG | 4ull << 32));
         EXPECT(factbox_check(e, 0, 10, 1, 11, e, 0) == FACTBOX_FORM);
         EXPECT(factbox_check(table, 64, 10, 5, 12, e, 0) == FACTBOX_FORM);
         EXPECT(factbox_check(e, 0, 10, 5, 12, (const uint8_t *)EXAMPLE_DERIVATION, 31 * 7) == (FACTBOX_STEP | 1 << 8));
@@ -85,50 +88,77 @@ static void empty_and_null(void) {
     }
 }
 
-/* All four calls on a chain of `facts` facts, with every buffer at a guard page or at any alignment, give what they give on
- * ordinary memory. */
-static void placed(uint32_t facts, int at_end, size_t shift) {
+/* Where a call's buffers lie: at the arena's end, or `shift` bytes behind its begin. */
+typedef struct { int at_end; size_t shift; } place;
+
+/* The question whether `subject` is of type 6 + facts, on the table at `table`, and on memory that is just enough, writes
+ * these lines and nothing else; on memory that is one too short, nothing. */
+static void asked(const uint8_t *table, uint32_t facts, uint32_t subject, const uint8_t *lines, arena output, place at) {
+    size_t bytes = FACTBOX_TABLE_LINE * (size_t)facts, room = factbox_output_size(facts);
+    uint64_t filling = subject == FACTBOX_GAP ? 6 : 0, yes = FACTBOX_YES | (uint64_t)facts << 32 | filling << 48;
+    uint8_t *out = lend(output, room, at.at_end, at.shift);
+    EXPECT(factbox_question(table, bytes, subject, 5, 6 + facts, facts, out, room) == (facts ? yes : FACTBOX_NO));
+    EXPECT(memcmp(out, lines, room) == 0 && untouched(output, out, room));
+    if (facts == 0) return;
+    out = lend(output, room - 1, at.at_end, at.shift);
+    EXPECT(factbox_question(table, bytes, subject, 5, 6 + facts, facts, out, room - 1) == FACTBOX_SHORT);
+    EXPECT(untouched(output, out, 0));
+}
+
+/* All four calls on `facts` facts, (6 type 7) and a chain of subclasses from 7, with every buffer at a guard page or at any
+ * alignment, give what they give on ordinary memory. */
+static void placed(uint32_t facts, place at) {
     static uint8_t table[FACTBOX_TABLE_MAX], lines[FACTBOX_DERIVATION_MAX];
     static uint32_t row[FACTBOX_ROW_MAX];
     static arena input, other, output;
     if (!input.begin) input = new_arena(), other = new_arena(), output = new_arena();
-    for (uint32_t i = 0; i < facts; i++) row[3 * i] = 6 + i, row[3 * i + 1] = 1, row[3 * i + 2] = 7 + i;
+    for (uint32_t i = 0; i < facts; i++) row[3 * i] = 6 + i, row[3 * i + 1] = i == 0 ? 5 : 1, row[3 * i + 2] = 7 + i;
     size_t bytes = FACTBOX_TABLE_LINE * (size_t)facts, numbers = 3 * (size_t)facts, room = factbox_output_size(facts);
     uint64_t count = (uint64_t)facts << 32;
     EXPECT(factbox_write(row, numbers, table, bytes) == count);
-    EXPECT(factbox_question(table, bytes, 6, 1, 6 + facts, facts, lines, room) == (facts ? FACTBOX_YES | count : FACTBOX_NO));
+    EXPECT(factbox_question(table, bytes, 6, 5, 6 + facts, facts, lines, room) == (facts ? FACTBOX_YES | count : FACTBOX_NO));
 
-    const uint8_t *t = put(input, table, bytes, at_end, shift);
-    uint8_t *out = lend(output, room, at_end, shift);
-    EXPECT(factbox_question(t, bytes, 6, 1, 6 + facts, facts, out, room) == (facts ? FACTBOX_YES | count : FACTBOX_NO));
-    EXPECT(memcmp(out, lines, room) == 0 && untouched(output, out, room));
-    const uint8_t *d = put(other, lines, room, at_end, shift);
-    EXPECT(factbox_check(t, bytes, 6, 1, 6 + facts, d, room) == (facts ? FACTBOX_ACCEPTED | count : FACTBOX_FORM));
+    const uint8_t *t = put(input, table, bytes, at.at_end, at.shift);
+    asked(t, facts, 6, lines, output, at);
+    asked(t, facts, FACTBOX_GAP, lines, output, at);
+    const uint8_t *d = put(other, lines, room, at.at_end, at.shift);
+    EXPECT(factbox_check(t, bytes, 6, 5, 6 + facts, d, room) == (facts ? FACTBOX_ACCEPTED | count : FACTBOX_FORM));
 
-    /* memory that is one too short is not touched */
-    if (facts) {
-        out = lend(output, room - 1, at_end, shift);
-        EXPECT(factbox_question(t, bytes, 6, 1, 6 + facts, facts, out, room - 1) == FACTBOX_SHORT);
-        EXPECT(untouched(output, out, 0));
-    }
-
-    size_t whole = shift / 4 * 4;
-    uint32_t *filled = lend(output, 4 * numbers, at_end, whole);
+    size_t whole = at.shift / 4 * 4;
+    uint32_t *filled = lend(output, 4 * numbers, at.at_end, whole);
     EXPECT(factbox_read(t, bytes, filled, numbers) == count);
     EXPECT(memcmp(filled, row, 4 * numbers) == 0 && untouched(output, filled, 4 * numbers));
-    const uint32_t *r = put(input, row, 4 * numbers, at_end, whole);
-    out = lend(output, bytes, at_end, shift);
+    const uint32_t *r = put(input, row, 4 * numbers, at.at_end, whole);
+    uint8_t *out = lend(output, bytes, at.at_end, at.shift);
     EXPECT(factbox_write(r, numbers, out, bytes) == count);
     EXPECT(memcmp(out, table, bytes) == 0 && untouched(output, out, bytes));
+}
+
+/* A question with a gap writes its own lines, where the allowance leaves room for more, and none where it is long, no or
+ * refused. */
+static void gap_writes_its_lines(void) {
+    static const uint8_t table[] = EXAMPLE_TABLE;
+    static const char line[] = "    0    0    0   10   13   20\n";
+    arena a = new_arena();
+    uint8_t *out = lend(a, 31 * 7, 0, 3);
+    EXPECT(factbox_question(table, 64, 10, 13, FACTBOX_GAP, 4, out, 31 * 7) == (FACTBOX_YES | 1ull << 32 | 20ull << 48));
+    EXPECT(memcmp(out, line, 31) == 0 && untouched(a, out, 31));
+    lend(a, 31 * 7, 0, 3);
+    EXPECT(factbox_question(table, 64, FACTBOX_GAP, 5, 12, 3, out, 31 * 7) == (FACTBOX_LONG | 4ull << 32));
+    EXPECT(factbox_question(table, 64, FACTBOX_GAP, 5, 13, 4, out, 31 * 7) == FACTBOX_NO);
+    EXPECT(factbox_question(table, 64, FACTBOX_GAP, 5, FACTBOX_GAP, 4, out, 31 * 7) == FACTBOX_BLANK);
+    EXPECT(factbox_question(table, 64, 10, FACTBOX_GAP, 20, 4, out, 31 * 7) == FACTBOX_BLANK);
+    EXPECT(untouched(a, out, 0));
 }
 
 int main(void) {
     static const uint32_t sizes[] = {0, 1, 2, 3, 7, 64, 1023, 1024};
     guard_page_faults();
     empty_and_null();
+    gap_writes_its_lines();
     for (size_t i = 0; i < sizeof sizes / sizeof *sizes; i++) {
-        placed(sizes[i], 1, 0);
-        for (size_t shift = 0; shift < 16; shift++) placed(sizes[i], 0, shift);
+        placed(sizes[i], (place){1, 0});
+        for (size_t shift = 0; shift < 16; shift++) placed(sizes[i], (place){0, shift});
     }
     return finish("test_memory");
 }

@@ -1,6 +1,6 @@
 /* The stack that each call takes. A call runs on a thread whose stack was painted beforehand; what is no longer painted was
- * used. The inputs are full tables that lead search and check through every rule, with yes, no, long and refusals. A
- * function that takes more than a call may shows that the measure would see it. */
+ * used. The inputs are full tables that lead search and check through every rule, with yes, no, long and refusals, with a
+ * gap and without. A function that takes more than a call may shows that the measure would see it. */
 #include "factbox.h"
 #include "test.h"
 
@@ -86,7 +86,11 @@ static void calls(uint32_t s, uint32_t p, uint32_t o, uint32_t count) {
     EXPECT(measure((job){.which = WRITE}) == FACTBOX_DONE);
     EXPECT(measure((job){.which = READ}) == FACTBOX_DONE);
     EXPECT(measure((job){.which = QUESTION, .fact = {s, p, 39999}, .limit = 1024}) == FACTBOX_NO);
-    EXPECT(measure((job){.which = QUESTION, .fact = {s, p, 60000}, .limit = 1024}) == FACTBOX_BLANK);
+    EXPECT(measure((job){.which = QUESTION, .fact = {FACTBOX_GAP, p, FACTBOX_GAP}, .limit = 1024}) == FACTBOX_BLANK);
+    EXPECT(measure((job){.which = QUESTION, .fact = {FACTBOX_GAP, p, 39999}, .limit = 1024}) == FACTBOX_NO);
+    EXPECT(measure((job){.which = QUESTION, .fact = {FACTBOX_GAP, p, o}, .limit = 0}) == FACTBOX_LONG);
+    EXPECT(measure((job){.which = QUESTION, .fact = {FACTBOX_GAP, p, o}, .limit = 1024}) == FACTBOX_YES);
+    EXPECT(measure((job){.which = QUESTION, .fact = {s, p, FACTBOX_GAP}, .limit = 1024}) == FACTBOX_YES);
     EXPECT(measure((job){.which = QUESTION, .fact = {s, p, o}, .limit = count - 1}) == FACTBOX_LONG);
     EXPECT(measure((job){.which = QUESTION, .fact = {s, p, o}, .limit = 1024}) == FACTBOX_YES);
     lines_len = FACTBOX_DERIVATION_LINE * (2 * (size_t)count - 1);

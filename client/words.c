@@ -6,9 +6,15 @@
 #include <stdlib.h>
 #include <string.h>
 
-enum { VOCABULARY_LAST = 5, LITERAL_FIRST = 40000, BLANK_FIRST = 60000, TERM_LAST = 65535 };
+enum { VOCABULARY_LAST = 5, LITERAL_FIRST = 40000, BLANK_FIRST = FACTBOX_GAP, TERM_LAST = 65535 };
 
 static const char *const VOCABULARY[] = {"", "subclass", "subproperty", "domain", "range", "type"};
+
+/* The same as verbs, before an object and before a gap. */
+static const char *const VERBS[] = {"", "is a subclass of", "is a subproperty of", "has domain", "has range", "is of type"};
+static const char *const GAP_VERBS[] = {
+    "", "is a subclass of some X", "is a subproperty of some X", "has some domain X", "has some range X", "is of some type X",
+};
 
 const char *const FIELD_NAMES[3] = {"subject", "predicate", "object"};
 
@@ -17,7 +23,7 @@ static const char *const REFUSALS[] = {
     "size: the table is torn or has more than 1,024 lines",
     "column: a field or the line end is not as laid out",
     "term: a number is 0 or above 65535",
-    "blank: a number is 60000 to 65535",
+    "blank: a number is 60000 to 65535 where none may stand",
     "part: vocabulary as subject or object, or a literal as predicate",
     "order: not above the line before, or the same",
     "allowance: above 1,024",
@@ -49,12 +55,14 @@ const char *refusal_words(unsigned number) {
     return number < sizeof REFUSALS / sizeof *REFUSALS ? REFUSALS[number] : "";
 }
 
+int is_blank(uint32_t term) { return term >= BLANK_FIRST && term <= TERM_LAST; }
+
 /* Why a number in this field earns this refusal; NULL if it does not. */
 static const char *number_fault(unsigned number, size_t field, uint32_t value) {
     int vocabulary = value >= 1 && value <= VOCABULARY_LAST, literal = value >= LITERAL_FIRST && value < BLANK_FIRST;
     switch (number) {
     case FACTBOX_TERM: return value == 0 ? "is no term" : value > TERM_LAST ? "is above 65535" : NULL;
-    case FACTBOX_BLANK: return value >= BLANK_FIRST && value <= TERM_LAST ? "is a blank node (60000 to 65535)" : NULL;
+    case FACTBOX_BLANK: return is_blank(value) ? "is a blank node (60000 to 65535), which only a question may have" : NULL;
     default:
         if (field == 1) return literal ? "is a literal (40000 to 59999): a predicate is a name or 1 to 5" : NULL;
         return vocabulary ? "is vocabulary (1 to 5), which can only be a predicate" : NULL;
@@ -70,6 +78,38 @@ const char *fact_fault(unsigned number, const uint32_t *fact) {
         return text;
     }
     return "";
+}
+
+const char *gap_fault(const uint32_t *question) {
+    if (is_blank(question[1])) return "a gap (? or 60000 to 65535) may stand as subject or object, not as predicate";
+    return "two gaps (? or 60000 to 65535): a question may have one, as subject or object";
+}
+
+const char *fact_words(const uint32_t *fact) {
+    static char text[64];
+    snprintf(text, sizeof text, "%u %s %u", (unsigned)fact[0], predicate_word(fact[1]), (unsigned)fact[2]);
+    return text;
+}
+
+/* A subject or object as its number, `?` for a gap. */
+static void put_term(char text[16], uint32_t term) {
+    if (is_blank(term)) strcpy(text, "?");
+    else snprintf(text, 16, "%u", (unsigned)term);
+}
+
+const char *question_words(const uint32_t *question) {
+    static char text[64];
+    char subject[16], object[16];
+    uint32_t s = question[0], p = question[1], o = question[2];
+    int known = p >= 1 && p <= VOCABULARY_LAST, one = is_blank(s) + is_blank(p) + is_blank(o) == 1;
+    const char *predicate = is_blank(p) ? "?" : predicate_word(p);
+    put_term(subject, s);
+    put_term(object, o);
+    if (one && is_blank(s)) snprintf(text, sizeof text, "some X %s %s", known ? VERBS[p] : predicate, object);
+    else if (one && is_blank(o) && known) snprintf(text, sizeof text, "%s %s", subject, GAP_VERBS[p]);
+    else if (one && is_blank(o)) snprintf(text, sizeof text, "%s %s some X", subject, predicate);
+    else snprintf(text, sizeof text, "%s %s %s", subject, predicate, object);
+    return text;
 }
 
 const char *quoted(const char *text, size_t len) {

@@ -1,4 +1,4 @@
-/* Words that the C programs share: predicates, refusals, and which field of a fact earns one. */
+/* Words that the C programs share: predicates, refusals, which field of a fact earns one, and questions with a gap. */
 #ifndef WORDS_H
 #define WORDS_H
 
@@ -25,6 +25,19 @@ const char *refusal_words(unsigned number);
 
 /* Which field of the fact earns refusal 3, 4 or 5, and why. The text holds until the next call. */
 const char *fact_fault(unsigned number, const uint32_t *fact);
+
+/* Whether a term is blank: in a question, a gap. */
+int is_blank(uint32_t term);
+
+/* Why a question's gaps earn refusal 4. */
+const char *gap_fault(const uint32_t *question);
+
+/* A fact in words: "10 type 12". The text holds until the next call. */
+const char *fact_words(const uint32_t *fact);
+
+/* A question in words: "10 type 12" without a gap; "some X is of type 12", "10 is of some type X" with one that it may have;
+ * else "10 ? 12". The text holds until the next call. */
+const char *question_words(const uint32_t *question);
 
 /* Text of `len` bytes in quotation marks, so that every byte can be seen; the rest of a long one is left out. The text holds
  * until the next call. */
