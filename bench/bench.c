@@ -1,10 +1,13 @@
 /* Measures the proved calls against the plain ones: same process, same buffers, one after the other. callgrind is told to
  * collect inside the functions factbox_* and plain_* alone.
  *
- *   bench time         times by family, facts and call, with the same table at every call and with another one
- *   bench count        one call each, for callgrind: each call's instructions are dumped under its name
+ *   bench time KIND    times by family, facts and call, with the same table at every call and with another one
+ *   bench count KIND   one call each, for callgrind: each call's instructions are dumped under its name
  *   bench input N M    input for the program: a table of N facts, M questions
- *   bench sum N M      the questions of that input by the call, for callgrind and a clock */
+ *   bench sum N M      the questions of that input by the call, for callgrind and a clock
+ *
+ * KIND is "whole" for the families whose questions have no gap, or "gap" for those with one. Of these the question alone is
+ * measured: a check never has a gap. */
 #include "../client/factbox.h"
 #include "families.h"
 #include "plain.h"
@@ -15,7 +18,7 @@
 #include <time.h>
 #include <valgrind/callgrind.h>
 
-enum { SAMPLES = 16, PAIRS = 512, LIMIT = FACTBOX_FACTS_MAX };
+enum { SAMPLES = 16, PAIRS = 512, LIMIT = FACTBOX_FACTS_MAX, GAP_FIRST = 60000 };
 
 static sample samples[SAMPLES];
 static uint8_t derivations[SAMPLES][FACTBOX_DERIVATION_MAX];
@@ -47,19 +50,40 @@ static const struct { const char *name; call *proved, *plain; } calls[] = {
     {"check", proved_check, plainly_check},
 };
 
-/* Makes the samples; both implementations must say the same of each. Gives whether there are derivations to check. */
+/* The term that a result names for the gap, bits 48 to 63, or 0; and the result without it, since a tie is free. */
+static uint32_t filling(uint64_t result) { return (uint32_t)(result >> 48); }
+static uint64_t without_filling(uint64_t result) { return result << 16 >> 16; }
+
+/* The call's answer to the sample, or 0 where not both checks accept its derivation, for the filled triple and with its count.
+ * The derivation is kept. */
+static uint64_t confirmed(call *question, int i) {
+    sample *s = &samples[i];
+    const uint32_t subject = s->subject, object = s->object;
+    uint64_t result = question(i), count = factbox_count(result);
+    derivation_len[i] = factbox_number(result) == FACTBOX_YES ? factbox_output_size((uint32_t)count) : 0;
+    memcpy(derivations[i], output, derivation_len[i]);
+    if (filling(result)) *(subject >= GAP_FIRST ? &s->subject : &s->object) = filling(result);
+    uint64_t proved = proved_check(i), plain = plainly_check(i), accepted = FACTBOX_ACCEPTED | count << 32;
+    s->subject = subject, s->object = object;
+    return proved == plain && (derivation_len[i] == 0 || plain == accepted) ? result : 0;
+}
+
+/* Both implementations say the same of the sample, and name a filling or none. The plain one's derivation is kept. */
+static int agree(int i) {
+    uint64_t proved = confirmed(proved_question, i), plain = confirmed(plainly_question, i);
+    return plain && without_filling(proved) == without_filling(plain) && !filling(proved) == !filling(plain);
+}
+
+/* Makes the samples. Gives how many of the calls there are to measure: none without a derivation has a check. */
 static int prepare(int family, unsigned facts) {
     for (int i = 0; i < SAMPLES; i++) {
         make_sample(family, facts, (uint32_t)i + 1, &samples[i]);
-        uint64_t expected = plainly_question(i);
-        derivation_len[i] = factbox_count(expected) ? FACTBOX_DERIVATION_LINE * (2 * (size_t)factbox_count(expected) - 1) : 0;
-        memcpy(derivations[i], output, derivation_len[i]);
-        if (proved_question(i) != expected || proved_check(i) != plainly_check(i)) {
-            fprintf(stderr, "bench: %s, %u facts, sample %d: the two do not agree\n", family_names[family], facts, i);
+        if (!agree(i)) {
+            fprintf(stderr, "bench: %s, %u facts, sample %d: the two do not agree\n", family_name(family), facts, i);
             exit(1);
         }
     }
-    return derivation_len[0] != 0;
+    return derivation_len[0] && family < first_gap_family ? 2 : 1;
 }
 
 static double now(void) {
@@ -107,14 +131,14 @@ static void count_call(const char *family, unsigned facts, int which, int proved
     CALLGRIND_DUMP_STATS_AT(name);
 }
 
-static void all(int counting) {
-    for (int family = 0; family < family_count; family++) {
+static void all(int counting, int gap) {
+    for (int family = gap ? first_gap_family : 0; family < (gap ? family_count : first_gap_family); family++) {
         for (int size = 0; size < SIZES; size++) {
-            int derivable = prepare(family, sizes[size]);
-            for (int which = 0; which < (derivable ? 2 : 1); which++) {
+            int measured = prepare(family, sizes[size]);
+            for (int which = 0; which < measured; which++) {
                 for (int k = 0; k < 2; k++) {
-                    if (counting) count_call(family_names[family], sizes[size], which, k);
-                    else time_call(family_names[family], sizes[size], which, k);
+                    if (counting) count_call(family_name(family), sizes[size], which, k);
+                    else time_call(family_name(family), sizes[size], which, k);
                 }
             }
         }
@@ -130,7 +154,7 @@ static void question_of(const sample *s, unsigned facts, unsigned i, uint32_t *t
 
 static void program_questions(unsigned facts, unsigned questions, int print) {
     sample *s = &samples[0];
-    make_sample(family_count - 1, facts, 1, s);
+    make_sample(first_gap_family - 1, facts, 1, s);
     if (print) {
         fwrite(s->table, 1, s->table_len, stdout);
         printf("    0    0    0\n");
@@ -146,8 +170,7 @@ static void program_questions(unsigned facts, unsigned questions, int print) {
 }
 
 int main(int argc, char **argv) {
-    if (argc == 2 && strcmp(argv[1], "time") == 0) all(0);
-    else if (argc == 2 && strcmp(argv[1], "count") == 0) all(1);
+    if (argc == 3) all(strcmp(argv[1], "count") == 0, strcmp(argv[2], "gap") == 0);
     else if (argc == 4) program_questions((unsigned)atoi(argv[2]), (unsigned)atoi(argv[3]), strcmp(argv[1], "input") == 0);
     else return 2;
     return 0;

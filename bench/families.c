@@ -1,4 +1,6 @@
-/* Families of tables with a question each: what a box holds, and what is hard for a search. */
+/* Families of tables with a question each: what a box holds, and what is hard for a search. First those without a gap in the
+ * question, then those with one: long derivations, tables where nearly every fact is a start, and tables where no filling
+ * follows, so that all of it is searched. */
 #include "families.h"
 
 #include <stdio.h>
@@ -6,7 +8,7 @@
 #include <string.h>
 
 enum { SC = 1, SP, DOM, RANGE, TYPE };
-enum { FACTS = 1024, NAMES = 2048, LITERAL = 40000 };
+enum { FACTS = 1024, NAMES = 2048, LITERAL = 40000, GAP = 60000 };
 
 static uint32_t facts[FACTS][3];
 static unsigned count;
@@ -123,16 +125,223 @@ static void ordinary(const uint32_t *name, unsigned n, sample *s) {
     put(s, thing[0], TYPE, class[0]);
 }
 
-const char *const family_names[] = {
-    "chain, names in order", "chain, names in no order", "sp, dom and sc mixed", "star", "many types, one class",
-    "dense graph", "no answer", "literal chain", "ordinary data",
-};
-static void (*const families[])(const uint32_t *, unsigned, sample *) = {
-    chain_in_order, chain_in_no_order, mix, star, many_types, dense, no_answer, literal_chain, ordinary,
-};
-const int family_count = sizeof families / sizeof *families;
+/* (? type c): a data fact, a dom or range fact, sc facts: all of them used */
+static void some_by(const uint32_t *name, unsigned n, sample *s, uint32_t predicate) {
+    add(name[NAMES - 1], name[0], name[NAMES - 2]);
+    add(name[0], predicate, name[1]);
+    put(s, GAP, TYPE, chain(name, 1, n - 2, SC));
+}
+static void some_by_domain(const uint32_t *name, unsigned n, sample *s) { some_by(name, n, s, DOM); }
+static void some_by_range(const uint32_t *name, unsigned n, sample *s) { some_by(name, n, s, RANGE); }
 
-void make_sample(int family, unsigned n, uint32_t seed, sample *s) {
+/* the same with sp facts before, without a subject */
+static void some_mixed(const uint32_t *name, unsigned n, sample *s) {
+    mix(name, n, s);
+    s->subject = GAP;
+}
+
+/* (? type c): a data fact, sp facts, a range fact: all of them used */
+static void some_by_sp(const uint32_t *name, unsigned n, sample *s) {
+    add(name[NAMES - 1], name[0], name[NAMES - 2]);
+    add(chain(name, 0, n - 2, SP), RANGE, name[n]);
+    put(s, GAP, TYPE, name[n]);
+}
+
+/* facts with a few predicates, each of another subject; only the last predicate leads on */
+static uint32_t data(const uint32_t *name, unsigned facts) {
+    unsigned predicates = 2 + facts / 32;
+    for (unsigned i = 0; i < facts; i++) add(name[i], name[1600 + i % predicates], name[1100 + i % 400]);
+    return name[1600 + predicates - 1];
+}
+
+/* (? type c): nearly every fact is a start, and few facts are used */
+static void some_of_many(const uint32_t *name, unsigned n, sample *s) {
+    uint32_t predicate = data(name, n - 3);
+    add(predicate, SP, name[1700]);
+    add(name[1700], RANGE, name[1701]);
+    add(name[1701], SC, name[1702]);
+    put(s, GAP, TYPE, name[1702]);
+}
+
+/* (? type c): half of the facts are starts, half an sc chain */
+static void some_half(const uint32_t *name, unsigned n, sample *s) {
+    uint32_t predicate = data(name, n / 2);
+    add(predicate, DOM, name[n / 2]);
+    put(s, GAP, TYPE, chain(name, n / 2, n - count, SC));
+}
+
+/* Facts with a predicate each, of one subject or into one object (the names put) or of different ones (where they are 0); all
+ * predicates are subproperties of one, and that of the property given. */
+static uint32_t predicate_each(const uint32_t *name, unsigned facts, uint32_t subject, uint32_t object) {
+    for (unsigned i = 0; count + 2 < facts; i++) {
+        add(subject ? subject : name[i], name[520 + i], object ? object : name[1040 + i]);
+        add(name[520 + i], SP, name[1600]);
+    }
+    if (count + 1 < facts) add(name[1601], SP, name[1600]);
+    add(name[1600], SP, name[1602]);
+    return name[1602];
+}
+
+/* (? type c): a predicate for each fact */
+static void some_predicate_each(const uint32_t *name, unsigned n, sample *s) {
+    uint32_t property = predicate_each(name, n - 1, 0, 0);
+    add(property, DOM, name[1700]);
+    put(s, GAP, TYPE, name[1700]);
+}
+static void some_predicate_each_no(const uint32_t *name, unsigned n, sample *s) {
+    some_predicate_each(name, n, s);
+    s->object = name[1701];
+}
+
+/* (? type c): a class for each thing, all with the same class above them */
+static void some_class_each(const uint32_t *name, unsigned n, sample *s) {
+    for (unsigned i = 3; count + 2 < n; i++) {
+        add(name[NAMES - i], TYPE, name[i]);
+        add(name[i], SC, name[1]);
+    }
+    if (count + 1 < n) add(name[NAMES - 1], TYPE, name[1]);
+    add(name[1], SC, name[2]);
+    put(s, GAP, TYPE, name[2]);
+}
+
+/* (? type c): things of one class, and every class below every other */
+static void some_dense(const uint32_t *name, unsigned n, sample *s) {
+    unsigned things = n / 8;
+    dense(name, n - things, s);
+    for (unsigned i = 0; i < things; i++) add(name[NAMES - 1 - i], TYPE, name[0]);
+    put(s, GAP, TYPE, s->object);
+}
+
+static void some_ordinary(const uint32_t *name, unsigned n, sample *s) {
+    ordinary(name, n, s);
+    s->subject = GAP;
+}
+static void some_ordinary_no(const uint32_t *name, unsigned n, sample *s) {
+    ordinary(name, n, s);
+    put(s, GAP, TYPE, name[NAMES - 1]);
+}
+
+/* (x type ?): a data fact, sp facts, a dom or range fact: all of them used */
+static void class_by_domain(const uint32_t *name, unsigned n, sample *s) {
+    add(name[NAMES - 1], name[0], name[NAMES - 2]);
+    add(chain(name, 0, n - 2, SP), DOM, name[n]);
+    put(s, name[NAMES - 1], TYPE, GAP);
+}
+static void class_by_range(const uint32_t *name, unsigned n, sample *s) {
+    some_by_sp(name, n, s);
+    put(s, name[NAMES - 2], TYPE, GAP);
+}
+
+/* (x type ?): a predicate for each fact of the subject */
+static void class_predicate_each(const uint32_t *name, unsigned n, sample *s) {
+    uint32_t property = predicate_each(name, n - 1, name[1700], 0);
+    add(property, DOM, name[1701]);
+    put(s, name[1700], TYPE, GAP);
+}
+/* the same with a range in place of the domain: no class; and for facts into one object with a domain: no class of that */
+static void class_of_subject_no(const uint32_t *name, unsigned n, sample *s) {
+    uint32_t property = predicate_each(name, n - 1, name[1700], 0);
+    add(property, RANGE, name[1701]);
+    put(s, name[1700], TYPE, GAP);
+}
+static void class_of_object_no(const uint32_t *name, unsigned n, sample *s) {
+    uint32_t property = predicate_each(name, n - 1, 0, name[1700]);
+    add(property, DOM, name[1701]);
+    put(s, name[1700], TYPE, GAP);
+}
+
+/* (? p y): half of the facts lead into the object, half are an sp chain */
+static void subject_by_chain(const uint32_t *name, unsigned n, sample *s) {
+    for (unsigned i = 0; i < n / 2; i++) add(name[NAMES - 1 - i], name[i % 8], name[1000]);
+    put(s, GAP, chain(name, 7, n - count, SP), name[1000]);
+}
+static void subject_predicate_each(const uint32_t *name, unsigned n, sample *s) {
+    put(s, GAP, predicate_each(name, n, 0, name[1700]), name[1700]);
+}
+static void subject_no(const uint32_t *name, unsigned n, sample *s) {
+    predicate_each(name, n, 0, name[1700]);
+    put(s, GAP, name[1701], name[1700]);
+}
+
+/* (x p ?) */
+static void object_by_literals(const uint32_t *name, unsigned n, sample *s) {
+    literal_chain(name, n, s);
+    s->object = GAP;
+}
+static void object_predicate_each(const uint32_t *name, unsigned n, sample *s) {
+    put(s, name[1700], predicate_each(name, n, name[1700], 0), GAP);
+}
+static void object_no(const uint32_t *name, unsigned n, sample *s) {
+    predicate_each(name, n, name[1700], 0);
+    put(s, name[1700], name[1701], GAP);
+}
+
+/* (? sc c) and (c sc ?): the last fact of the table; no fact */
+static void subclass(const uint32_t *name, unsigned n, sample *s) {
+    chain_in_order(name, n, s);
+    s->subject = GAP;
+}
+static void superclass(const uint32_t *name, unsigned n, sample *s) {
+    chain_in_order(name, n, s);
+    put(s, s->object - 1, SC, GAP);
+}
+static void subclass_no(const uint32_t *name, unsigned n, sample *s) {
+    chain_in_order(name, n, s);
+    put(s, GAP, SC, s->subject);
+}
+
+typedef struct {
+    const char *name;
+    void (*make)(const uint32_t *, unsigned, sample *);
+} family;
+
+static const family without_gap[] = {
+    {"chain, names in order", chain_in_order},
+    {"chain, names in no order", chain_in_no_order},
+    {"sp, dom and sc mixed", mix},
+    {"star", star},
+    {"many types, one class", many_types},
+    {"dense graph", dense},
+    {"no answer", no_answer},
+    {"literal chain", literal_chain},
+    {"ordinary data", ordinary},
+};
+static const family with_gap[] = {
+    {"? type c, domain and sc chain", some_by_domain},
+    {"? type c, range and sc chain", some_by_range},
+    {"? type c, sp chain and range", some_by_sp},
+    {"? type c, sp, dom and sc mixed", some_mixed},
+    {"? type c, half data, half chain", some_half},
+    {"? type c, few predicates", some_of_many},
+    {"? type c, a predicate each", some_predicate_each},
+    {"? type c, a class each", some_class_each},
+    {"? type c, dense graph", some_dense},
+    {"? type c, ordinary data", some_ordinary},
+    {"? type c, ordinary data, no answer", some_ordinary_no},
+    {"? type c, a predicate each, no answer", some_predicate_each_no},
+    {"x type ?, sp chain and domain", class_by_domain},
+    {"x type ?, sp chain and range", class_by_range},
+    {"x type ?, a predicate each", class_predicate_each},
+    {"x type ?, a predicate each, no domain", class_of_subject_no},
+    {"x type ?, a predicate each, no range", class_of_object_no},
+    {"? p y, half data, half chain", subject_by_chain},
+    {"? p y, a predicate each", subject_predicate_each},
+    {"? p y, no answer", subject_no},
+    {"x p ?, literal chain", object_by_literals},
+    {"x p ?, a predicate each", object_predicate_each},
+    {"x p ?, no answer", object_no},
+    {"? sc c", subclass},
+    {"c sc ?", superclass},
+    {"? sc c, no answer", subclass_no},
+};
+enum { FIRST_GAP = sizeof without_gap / sizeof *without_gap, COUNT = FIRST_GAP + sizeof with_gap / sizeof *with_gap };
+const int family_count = COUNT, first_gap_family = FIRST_GAP;
+
+static const family *family_at(int at) { return at < FIRST_GAP ? &without_gap[at] : &with_gap[at - FIRST_GAP]; }
+
+const char *family_name(int at) { return family_at(at)->name; }
+
+void make_sample(int at, unsigned n, uint32_t seed, sample *s) {
     static uint32_t name[NAMES];
     state = seed * 2654435761u + 12345;
     count = 0;
@@ -142,9 +351,9 @@ void make_sample(int family, unsigned n, uint32_t seed, sample *s) {
         uint32_t j = below(i + 1), t = name[i];
         name[i] = name[j], name[j] = t;
     }
-    families[family](name, n, s);
+    family_at(at)->make(name, n, s);
     if (count != n) {
-        fprintf(stderr, "%s: %u facts where %u were asked for\n", family_names[family], count, n);
+        fprintf(stderr, "%s: %u facts where %u were asked for\n", family_name(at), count, n);
         exit(2);
     }
     qsort(facts, count, sizeof *facts, compare);

@@ -10,10 +10,11 @@ typedef struct {
     uint32_t subject, predicate, object;
 } sample;
 
-extern const char *const family_names[];
-extern const int family_count;
+/* The families whose questions have no gap come first; the last of those is ordinary data. */
+extern const int family_count, first_gap_family;
+const char *family_name(int at);
 
 /* A table of `facts` facts, 16 to 1,024, and a question over it. Other seeds give other names and another order of them. */
-void make_sample(int family, unsigned facts, uint32_t seed, sample *s);
+void make_sample(int at, unsigned facts, uint32_t seed, sample *s);
 
 #endif

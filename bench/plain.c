@@ -1,6 +1,7 @@
 /* The fact box's calls in plain C, written for speed: one pass over the table's bytes, breadth-first search over the
- * table's facts with one visit of each part of the sorted table, no allocation, no copies. Nothing here is proved; the
- * differential test in tests/ can be run on it as on the proved library.
+ * table's facts with one visit of each part of the sorted table, no allocation, no copies. A question with a gap is one
+ * search as well, from the starts of all fillings at once. Nothing here is proved; the differential test in tests/ can be run
+ * on it as on the proved library.
  *
  * With TUNED, it takes three shortcuts that the proved code takes: a field is read and written without a loop, and a
  * well-formed fact is told by three ranges. */
@@ -24,6 +25,8 @@ static uint64_t answer(uint64_t number, uint64_t place, uint64_t count) { return
 
 static int is_name(uint32_t t) { return t - NAME_FIRST < LITERAL_FIRST - NAME_FIRST; }
 
+static int is_blank(uint32_t t) { return t >= BLANK_FIRST; }
+
 /* The first of refusals 3, 4, 5, or 0. */
 static unsigned fault(uint32_t s, uint32_t p, uint32_t o) {
 #ifdef TUNED
@@ -33,6 +36,13 @@ static unsigned fault(uint32_t s, uint32_t p, uint32_t o) {
     if (s - 1 >= TERM_LAST || p - 1 >= TERM_LAST || o - 1 >= TERM_LAST) return 3;
     if (s >= BLANK_FIRST || p >= BLANK_FIRST || o >= BLANK_FIRST) return 4;
     return s < NAME_FIRST || o < NAME_FIRST || p >= LITERAL_FIRST ? 5 : 0;
+}
+
+/* The same for a question, where one of subject and object may be a gap: a name in its place tells of the other two terms. */
+static unsigned question_fault(uint32_t s, uint32_t p, uint32_t o) {
+    unsigned number = fault(s, p, o);
+    if (number != 4 || (is_blank(s) && is_blank(o))) return number;
+    return fault(is_blank(s) ? NAME_FIRST : s, p, is_blank(o) ? NAME_FIRST : o);
 }
 
 #ifdef TUNED
@@ -121,7 +131,7 @@ static size_t lower(const fact *facts, size_t n, fact f) {
     return low;
 }
 
-/* Search. A node is a table fact, twice over where it is an sp fact: reached from a data fact's subject (side 0) or object
+/* Search. A node is a table fact, twice over where it is a data or sp fact: for a data fact's subject (side 0) or object
  * (side 1), since by domain and by range must not mix. */
 typedef struct {
     const fact *facts;
@@ -151,7 +161,7 @@ static void start(search *x, size_t node) {
     x->queue[x->to++] = (uint16_t)node;
 }
 
-/* The last node of a shortest derivation, or -1. */
+/* The last node of a shortest derivation of a triple without a gap, or -1. */
 static int find(search *x) {
     const fact *f = x->facts, t = x->triple;
     uint32_t subject = subject_of(t), p = predicate_of(t), object = object_of(t);
@@ -189,6 +199,102 @@ static int find(search *x) {
     return -1;
 }
 
+/* With a gap nearly every fact may be a start, so each costs one look into the table. Adds the facts that may follow one which
+ * leads to the property `link`: sp facts, and for a type, if the link is a name, the facts that give one on this side. They
+ * stand together in the table. Gives the node of the goal, or -1; where the goal is the gap, any class will do. */
+static int visit_property(search *x, uint32_t link, unsigned side, uint16_t from) {
+    const fact *f = x->facts;
+    uint32_t end = predicate_of(x->triple) != TYPE ? SP : side ? RANGE : DOM, last = is_name(link) ? end : SP;
+    fact behind = make(link, last + 1, 0);
+    for (size_t i = lower(f, x->n, make(link, SP, 0)); i < x->n && f[i] < behind; i++) {
+        uint32_t q = predicate_of(f[i]);
+        if (q != SP && q != end) continue;
+        size_t node = q == SP ? i + side * FACTS : i;
+        if (x->mark[node]) return -1;
+        x->mark[node] = from;
+        if (q == end && (object_of(f[i]) == x->goal || is_blank(x->goal))) return (int)node;
+        x->queue[x->to++] = (uint16_t)node;
+    }
+    return -1;
+}
+
+/* From the starts to the goal: the last node of a shortest derivation, or -1. */
+static int spread(search *x) {
+    while (x->from < x->to) {
+        size_t node = x->queue[x->from];
+        uint16_t from = (uint16_t)(x->from++ + 2);
+        unsigned side = node >= FACTS;
+        fact f = x->facts[node - side * FACTS];
+        uint32_t q = predicate_of(f);
+        int goal = q == SP || q > TYPE ? visit_property(x, q == SP ? object_of(f) : q, side, from) : visit(x, object_of(f), SC, 0, from, 1);
+        if (goal >= 0) return goal;
+    }
+    return -1;
+}
+
+/* The one node of a derivation that is a table fact. */
+static int alone(search *x, size_t node) {
+    x->mark[node] = 1;
+    return (int)node;
+}
+
+/* Terms met of late, each at its remainder. */
+enum { LATE = 512 };
+typedef struct { uint16_t late[LATE]; } terms;
+
+/* Whether the term is not among those met of late; then it is put there. */
+static int is_new(terms *met, uint32_t t) {
+    uint16_t *at = &met->late[t % LATE];
+    if (*at == t) return 0;
+    *at = (uint16_t)t;
+    return 1;
+}
+
+/* The last node of a shortest derivation of a filling of (? p o), or -1. A type's start is every data fact, for its subject and
+ * its object; one for each predicate and each class is enough, so most of the others are left out. The other terms of the
+ * vocabulary need no start: a chain to the object ends in a fact that fits. */
+static int find_subject(search *x) {
+    const fact *f = x->facts;
+    uint32_t p = predicate_of(x->triple), object = object_of(x->triple);
+    terms predicates = {0}, classes = {0};
+    for (size_t i = 0; i < x->n; i++) {
+        uint32_t q = predicate_of(f[i]), o = object_of(f[i]);
+        if (q == p && o == object) return alone(x, i);
+        if (p < TYPE || q < TYPE) continue;
+        if (p != TYPE) {
+            if (q != TYPE && o == object && is_new(&predicates, q)) start(x, i);
+        } else if (q == TYPE) {
+            if (is_new(&classes, o)) start(x, i);
+        } else if (is_new(&predicates, q)) {
+            start(x, i);
+            start(x, i + FACTS);
+        }
+    }
+    return spread(x);
+}
+
+/* The same for (s p ?): the first fact that fits, or else from data facts of the subject, for a type also into it, one for each
+ * predicate. */
+static int find_object(search *x) {
+    const fact *f = x->facts, t = x->triple;
+    uint32_t subject = subject_of(t), p = predicate_of(t);
+    size_t n = x->n, i = lower(f, n, make(subject, p, 0));
+    if (i < n && f[i] >> 16 == t >> 16) return alone(x, i);
+    if (p < TYPE) return -1;
+    i = lower(f, n, make(subject, NAME_FIRST, 0));
+    for (fact before = 0; i < n && subject_of(f[i]) == subject; before = f[i++])
+        if (f[i] >> 16 != before >> 16) start(x, i);
+    terms met = {0};
+    for (i = 0; p == TYPE && i < n; i++)
+        if (object_of(f[i]) == subject && predicate_of(f[i]) > TYPE && is_new(&met, predicate_of(f[i]))) start(x, i + FACTS);
+    return spread(x);
+}
+
+/* The last node of a shortest derivation of a filling, or -1. Not inlined: a question without a gap is to cost no more by it. */
+static __attribute__((noinline)) int find_filling(search *x) {
+    return is_blank(subject_of(x->triple)) ? find_subject(x) : find_object(x);
+}
+
 static uint8_t *put_line(uint8_t *at, uint32_t rule, uint32_t first, uint32_t second, fact f) {
     put_field(at, rule);
     put_field(at + 5, first);
@@ -200,8 +306,8 @@ static uint8_t *put_line(uint8_t *at, uint32_t rule, uint32_t first, uint32_t se
     return at + LINE;
 }
 
-/* Prints the derivation of the facts, which are in printed order. */
-static void print(const fact *used, size_t count, uint8_t *at) {
+/* Prints the derivation of the facts, which are in printed order; gives its last fact. */
+static fact print(const fact *used, size_t count, uint8_t *at) {
     fact r = used[0];
     at = put_line(at, 0, 0, 0, r);
     for (size_t k = 1; k < count; k++) {
@@ -219,6 +325,25 @@ static void print(const fact *used, size_t count, uint8_t *at) {
             at = put_line(at, p == SC ? 4 : p == DOM ? 5 : 6, new, result, r);
         }
     }
+    return r;
+}
+
+/* Writes the facts from a start to the node, the last one before `end`; gives the place of the first. */
+static fact *path(const search *x, int node, fact *end) {
+    for (;;) {
+        *--end = x->facts[node % FACTS];
+        if (x->mark[node] == 1) return end;
+        node = x->queue[x->mark[node] - 2];
+    }
+}
+
+/* A path visits the data fact first, the print puts it behind the sp facts. */
+static void put_in_order(fact *first, size_t count) {
+    if (!is_name(predicate_of(*first))) return;
+    fact data = *first;
+    size_t k = 0;
+    for (; k + 1 < count && predicate_of(first[k + 1]) == SP; k++) first[k] = first[k + 1];
+    first[k] = data;
 }
 
 uint64_t plain_question(const uint8_t *table, size_t table_len, uint32_t subject, uint32_t predicate, uint32_t object,
@@ -226,7 +351,7 @@ uint64_t plain_question(const uint8_t *table, size_t table_len, uint32_t subject
     fact facts[FACTS], used[FACTS];
     uint64_t refusal = load(table, table_len, facts);
     if (refusal) return refusal;
-    unsigned number = fault(subject, predicate, object);
+    unsigned number = question_fault(subject, predicate, object);
     if (number) return answer(number, 0, 0);
     if (limit > FACTS) return answer(7, 0, 0);
     if (limit && output_len < LINE * (2 * (size_t)limit - 1)) return answer(8, 0, 0);
@@ -237,26 +362,15 @@ uint64_t plain_question(const uint8_t *table, size_t table_len, uint32_t subject
     x.triple = make(subject, predicate, object);
     x.goal = is_name(predicate) ? predicate : object;
     for (size_t i = 0; i < x.n; i++) x.mark[i] = x.mark[i + FACTS] = 0;
-    int node = find(&x);
+    int node = is_blank(subject) || is_blank(object) ? find_filling(&x) : find(&x);
     if (node < 0) return answer(91, 0, 0);
-    size_t count = FACTS;
-    for (;;) {
-        used[--count] = facts[node % FACTS];
-        if (x.mark[node] == 1) break;
-        node = x.queue[x.mark[node] - 2];
-    }
-    fact *first = used + count;
-    count = FACTS - count;
+    fact *first = path(&x, node, used + FACTS);
+    size_t count = (size_t)(used + FACTS - first);
     if (count > limit) return answer(92, 0, count);
-    /* a path visits the data fact first, the print puts it behind the sp facts */
-    if (is_name(predicate_of(*first))) {
-        fact data = *first;
-        size_t k = 0;
-        for (; k + 1 < count && predicate_of(first[k + 1]) == SP; k++) first[k] = first[k + 1];
-        first[k] = data;
-    }
-    print(first, count, output);
-    return answer(90, 0, count);
+    put_in_order(first, count);
+    fact filled = print(first, count, output);
+    uint64_t filling = is_blank(subject) ? subject_of(filled) : is_blank(object) ? object_of(filled) : 0;
+    return answer(90, 0, count) | filling << 48;
 }
 
 typedef struct { uint32_t rule, first, second, s, p, o; } line;

@@ -4,6 +4,10 @@
 report.py BENCH TUNED PROGRAM DIR: in DIR/PERFORMANCE.md, what stands between the two marks is written anew (the file is made
 where there is none); DIR/performance.svg is the plot. BENCH has the plain implementation, TUNED the one with the proved
 code's shortcuts. Instructions are callgrind's, and the same in every run; times are medians over interleaved pairs of calls.
+Families with a gap in the question are kept apart from those without, so that the means of the latter stay comparable.
+
+report.py OLD NEW: prints the instructions of the proved calls in the bench NEW against those in OLD, a bench with another
+library, for the questions without a gap.
 """
 import math
 import os
@@ -29,13 +33,13 @@ def output(*command, **more):
 
 
 def callgrind(*command, whole=False, **more):
-    """What callgrind collects, by the name under which it was dumped ('' where it was not): instructions by function."""
+    """What callgrind collects, in order, by the name under which it was dumped ('' where it was not): instructions by function."""
     collect = [] if whole else ["--toggle-collect=factbox_*", "--toggle-collect=plain_*"]
     with tempfile.TemporaryDirectory() as folder:
         tool = ["valgrind", "--tool=callgrind", "--compress-strings=no", f"--callgrind-out-file={folder}/out"]
         output(*tool, *collect, *command, stderr=subprocess.DEVNULL, env={**os.environ, "GLIBC_TUNABLES": TUNABLES}, **more)
         dumps = {}
-        for path in Path(folder).iterdir():
+        for path in sorted(Path(folder).iterdir(), key=lambda path: int(path.suffix[1:] or 0)):
             text = path.read_text(errors="replace")
             name = re.search(r"Trigger: Client Request: (.*)", text)
             dumps[name[1] if name else ""] = by_function(text)
@@ -76,6 +80,14 @@ def function_table(dumps, call, families):
             largest = sorted(counts.items(), key=lambda item: -item[1])[:5]
             rows.append([family, ", ".join(f"`{name}` {100 * n / total:.0f} %" for name, n in largest)])
     return table(["Family", "Functions"], rows, right=False)
+
+
+def totals(dumps):
+    return {name: sum(by.values()) for name, by in dumps.items()}
+
+
+def families_of(counts):
+    return list(dict.fromkeys(name.split("\t")[0] for name in counts if name))
 
 
 def instruction_table(call, counts, families):
@@ -156,67 +168,120 @@ def plot(counts, families, top):
     return "\n".join(svg + ["</svg>"]) + "\n"
 
 
-def ratio_table(counts, families):
-    """The ratios of both calls by family and size, and their geometric means."""
+def ratio_table(counts, families, calls=("question", "check")):
+    """The ratios of the calls by family and size, and their geometric means."""
     rows, means = [], []
-    for call in ("question", "check"):
+    for call in calls:
         _, ratios, _ = instruction_table(call, counts, families)
         means.append(geometric_mean(ratios))
         for family in families:
             pairs = [(counts.get(f"{family}\t{n}\t{call}\tproved"), counts.get(f"{family}\t{n}\t{call}\tplain")) for n in SIZES]
             if pairs[0][0]:
-                rows.append([f"{call}: {family}", *(f"{a / b:.2f}" for a, b in pairs)])
-    return table(["Call and family", *(f"{n:,}" for n in SIZES)], rows), means
+                rows.append([f"{call}: {family}" if len(calls) > 1 else family, *(f"{a / b:.2f}" for a, b in pairs)])
+    return table(["Call and family" if len(calls) > 1 else "Family", *(f"{n:,}" for n in SIZES)], rows), means
 
 
-def main(bench, tuned, program, folder):
-    times = {}
-    for line in output(bench, "time").decode().splitlines():
-        family, n, call, mode, *values = line.split("\t")
-        times[family, int(n), call, mode] = values
-    families = list(dict.fromkeys(key[0] for key in times))
-    dumps = callgrind(bench, "count")
-    counts = {name: sum(by.values()) for name, by in dumps.items()}
-    questions, question_ratios, question_growth = instruction_table("question", counts, families)
-    checks, check_ratios, check_growth = instruction_table("check", counts, families)
-    tuned_counts = {name: sum(by.values()) for name, by in callgrind(tuned, "count").items()}
-    tuned_ratios, tuned_means = ratio_table(tuned_counts, families)
-    programs, program_ratios = program_table(bench, program)
-    compiler = output("cc", "--version").decode().splitlines()[0]
+def worst(counts, families):
+    """The largest ratio of a question, and where it is."""
+    ratios = {(family, n): counts[f"{family}\t{n}\tquestion\tproved"] / counts[f"{family}\t{n}\tquestion\tplain"] for family in families for n in SIZES}
+    family, n = max(ratios, key=ratios.get)
+    return f"{ratios[family, n]:.2f} at most ({family}; {n:,} facts)"
+
+
+class Measured:
+    """All that is measured of one kind of families: without a gap in the question ("whole"), or with one ("gap")."""
+
+    def __init__(self, kind, bench, tuned):
+        self.times = {}
+        for line in output(bench, "time", kind).decode().splitlines():
+            family, n, call, mode, *values = line.split("\t")
+            self.times[family, int(n), call, mode] = values
+        self.dumps = callgrind(bench, "count", kind)
+        self.counts = totals(self.dumps)
+        self.families = families_of(self.counts)
+        self.tuned = totals(callgrind(tuned, "count", kind))
+
+
+def summary_of(whole, gap, program_ratios):
+    _, question_ratios, question_growth = instruction_table("question", whole.counts, whole.families)
+    _, check_ratios, check_growth = instruction_table("check", whole.counts, whole.families)
+    _, gap_ratios, gap_growth = instruction_table("question", gap.counts, gap.families)
+    tuned = ratio_table(whole.tuned, whole.families)[1]
+    gap_tuned = ratio_table(gap.tuned, gap.families, ["question"])[1]
     means = [f"{geometric_mean(ratios):.2f}" for ratios in (question_ratios, check_ratios, question_ratios + check_ratios)]
-    summary = table(["Aim", "Measured"], [
+    return table(["Aim", "Measured"], [
         ["instructions against plain C, geometric mean: at most 1.00", f"question {means[0]}, check {means[1]}, both {means[2]}"],
-        ["the same, with the proved code's three shortcuts built into plain C", f"question {tuned_means[0]:.2f}, check {tuned_means[1]:.2f}"],
-        ["growth from 512 to 1,024 facts, in each family: at most 2.30", f"question {question_growth:.2f}, check {check_growth:.2f} at most"],
+        ["the same, with the proved code's three shortcuts built into plain C", f"question {tuned[0]:.2f}, check {tuned[1]:.2f}"],
+        ["a question with a gap against plain C, geometric mean: at most 1.50", f"{geometric_mean(gap_ratios):.2f}; {worst(gap.counts, gap.families)}"],
+        ["the same, with the three shortcuts in plain C", f"{gap_tuned[0]:.2f}; {worst(gap.tuned, gap.families)}"],
+        ["growth from 512 to 1,024 facts, in each family: at most 2.30", f"question {question_growth:.2f}, with a gap {gap_growth:.2f}, check {check_growth:.2f} at most"],
         ["instructions of the program against the sum of its calls: at most 2.00", ", ".join(f"{r:.2f}" for r in program_ratios)],
     ], right=False)
+
+
+def sections(whole, gap, programs):
+    """The results in full: headings, each with what stands under it."""
+    both = "Another table at every call, and in the last column of each size the same one. Medians over interleaved pairs of calls."
+    shortcuts = "`bench/plain.c` with `TUNED`: fields are read and written without a loop, a well-formed fact is told by three ranges."
+    return [
+        ("Instructions of one question", instruction_table("question", whole.counts, whole.families)[0]),
+        ("Instructions of one question with a gap", instruction_table("question", gap.counts, gap.families)[0]),
+        ("Instructions of one check of the derivation printed", instruction_table("check", whole.counts, whole.families)[0]),
+        ("Ratios against plain C with the proved code's shortcuts", shortcuts + "\n\n" + ratio_table(whole.tuned, whole.families)[0]),
+        ("The same ratios of a question with a gap", ratio_table(gap.tuned, gap.families, ["question"])[0]),
+        ("Where the instructions of a question go, 1,024 facts", function_table(whole.dumps, "question", whole.families)),
+        ("Where the instructions of a question with a gap go, 1,024 facts", function_table(gap.dumps, "question", gap.families)),
+        ("Where the instructions of a check go, 1,024 facts", function_table(whole.dumps, "check", whole.families)),
+        ("Times of one question, microseconds", both + "\n\n" + time_table("question", whole.times, whole.families)),
+        ("Times of one question with a gap, microseconds", time_table("question", gap.times, gap.families)),
+        ("Times of one check, microseconds", time_table("check", whole.times, whole.families)),
+        ("The program against the sum of its calls", programs),
+    ]
+
+
+def write_report(bench, tuned, program, folder):
+    whole, gap = Measured("whole", bench, tuned), Measured("gap", bench, tuned)
+    programs, program_ratios = program_table(bench, program)
+    summary = summary_of(whole, gap, program_ratios)
+    compiler = output("cc", "--version").decode().splitlines()[0]
     text = "\n".join([
         BEGIN, "",
         summary,
         f"Plain C: `bench/plain.c`, {compiler}, -O2. Ratio: proved / plain.", "",
         "![Ratio of instructions by family and number of facts](performance.svg)", "",
-        "### Instructions of one question", "", questions,
-        "### Instructions of one check of the derivation printed", "", checks,
-        "### Ratios against plain C with the proved code's shortcuts", "",
-        "`bench/plain.c` with `TUNED`: fields are read and written without a loop, a well-formed fact is told by three ranges.", "",
-        tuned_ratios,
-        "### Where the instructions of a question go, 1,024 facts", "", function_table(dumps, "question", families),
-        "### Where the instructions of a check go, 1,024 facts", "", function_table(dumps, "check", families),
-        "### Times of one question, microseconds", "",
-        "Another table at every call, and in the last column of each size the same one. Medians over interleaved pairs of calls.",
-        "", time_table("question", times, families),
-        "### Times of one check, microseconds", "", time_table("check", times, families),
-        "### The program against the sum of its calls", "", programs,
+        *(f"### {heading}\n\n{body}" for heading, body in sections(whole, gap, programs)),
         END,
     ])
     path = Path(folder) / "PERFORMANCE.md"
     old = path.read_text() if path.exists() else f"# Performance\n\n{BEGIN}\n{END}\n"
     path.write_text(re.sub(re.escape(BEGIN) + ".*?" + re.escape(END), lambda _: text, old, flags=re.S))
-    (Path(folder) / "performance.svg").write_text(plot(counts, families, math.ceil(max(question_ratios + check_ratios))))
+    ratios = [ratio for call in ("question", "check") for ratio in instruction_table(call, whole.counts, whole.families)[1]]
+    (Path(folder) / "performance.svg").write_text(plot(whole.counts, whole.families, math.ceil(max(ratios))))
     print(summary + f"written to {path}")
 
 
+def compare(old, new):
+    """Prints the instructions of the proved calls without a gap, new against old, by family and size."""
+    before, after = (totals(callgrind(bench, "count", "whole")) for bench in (old, new))
+    for call in ("question", "check"):
+        rows, means, all_ratios = [], [], []
+        for family in families_of(before):
+            names = [f"{family}\t{n}\t{call}\tproved" for n in SIZES]
+            if names[0] in before:
+                ratios = [after[name] / before[name] for name in names]
+                means.append(geometric_mean(ratios))
+                all_ratios += ratios
+                rows.append([family, f"{before[names[-1]]:,}", f"{after[names[-1]]:,}", *(f"{r:.4f}" for r in ratios), f"{means[-1]:.4f}"])
+        head = ["Family", "old, 1,024", "new, 1,024", *(f"new / old, {n:,}" for n in SIZES), "mean"]
+        print(f"### Instructions of one {call} without a gap, new against old\n\n" + table(head, rows))
+        print(f"Geometric mean {geometric_mean(all_ratios):.4f} (aim: at most 1.02); largest mean of a family {max(means):.4f}, "
+              f"largest of a family and size {max(all_ratios):.4f} (aim: at most 1.05).\n")
+
+
 if __name__ == "__main__":
-    if len(sys.argv) != 5:
+    if len(sys.argv) == 5:
+        write_report(*sys.argv[1:])
+    elif len(sys.argv) == 3:
+        compare(*sys.argv[1:])
+    else:
         sys.exit(__doc__)
-    main(*sys.argv[1:])
