@@ -8,7 +8,7 @@ pub trait Calls {
     fn factbox_read(&self, table: &[u8], row: &mut [u32]) -> u64;
     fn factbox_write(&self, row: &[u32], output: &mut [u8]) -> u64;
     fn factbox(&self, input: &[u8]) -> Vec<u8>;
-    /// Whether its question prints the named one among several shortest derivations.
+    /// Whether its question prints the named one among several shortest derivations, and fills a gap by that.
     fn chooses(&self) -> bool {
         true
     }
@@ -29,5 +29,29 @@ impl<T: Parts> Calls for T {
     }
     fn factbox(&self, input: &[u8]) -> Vec<u8> {
         self.program(input)
+    }
+}
+
+/// The same implementation, from which any shortest derivation and any least filling is taken.
+pub struct AnyChoice(pub Box<dyn Calls>);
+
+impl Calls for AnyChoice {
+    fn chooses(&self) -> bool {
+        false
+    }
+    fn factbox_question(&self, table: &[u8], triple: Fact, allowance: u32, paper: &mut [u8]) -> u64 {
+        self.0.factbox_question(table, triple, allowance, paper)
+    }
+    fn factbox_check(&self, table: &[u8], triple: Fact, derivation: &[u8]) -> u64 {
+        self.0.factbox_check(table, triple, derivation)
+    }
+    fn factbox_read(&self, table: &[u8], row: &mut [u32]) -> u64 {
+        self.0.factbox_read(table, row)
+    }
+    fn factbox_write(&self, row: &[u32], output: &mut [u8]) -> u64 {
+        self.0.factbox_write(row, output)
+    }
+    fn factbox(&self, input: &[u8]) -> Vec<u8> {
+        self.0.factbox(input)
     }
 }

@@ -7,10 +7,13 @@
 //!   the one of least rank is meant.
 //! - `chosen`: for tables of any size. Layer by layer over the properties and classes that paths lead to, with the best path
 //!   to each of them.
+//!
+//! A question with a gap has the shortest paths of all its fillings to choose from, by the same rule. `least_fillings` tries
+//! one filling after the other, each as a question without a gap; `chosen_filling` takes the one of least rank.
 use crate::facts::*;
 use crate::lines::in_order;
 use crate::parts::{Faithful, Parts};
-use std::collections::{HashMap, HashSet};
+use std::collections::{BTreeSet, HashMap, HashSet};
 
 /// The facts of every derivation of the triple with f table lines in printed order.
 pub fn all_shortest(facts: &[Fact], triple: Fact, f: usize) -> Vec<Vec<Fact>> {
@@ -38,7 +41,6 @@ pub fn rank(facts: &[Fact], printed: &[Fact]) -> (bool, Vec<usize>) {
 /// What a path has led to so far.
 #[derive(PartialEq, Eq, Hash)]
 enum End {
-    Nothing,
     Property(u32),
     Class(u32),
 }
@@ -65,10 +67,8 @@ fn begins(way: u32, triple: Fact, fact: Fact) -> bool {
 }
 
 /// What a path must have led to for the fact to come next, if there is such a thing.
-fn comes_after(way: u32, triple: Fact, fact: Fact) -> Option<End> {
-    let [s, p, _] = fact;
+fn comes_after(way: u32, [s, p, _]: Fact) -> Option<End> {
     match p {
-        _ if begins(way, triple, fact) => Some(End::Nothing),
         SP => Some(End::Property(s)),
         SC => Some(End::Class(s)),
         // a literal is no predicate: its dom or range fact never fires
@@ -76,48 +76,74 @@ fn comes_after(way: u32, triple: Fact, fact: Fact) -> Option<End> {
     }
 }
 
-/// The best path for the triple by domain or by range, over facts in the order in which they stand.
-fn path(way: u32, facts: &[Fact], triple: Fact) -> Option<Vec<Fact>> {
-    let mut after: HashMap<End, Vec<(usize, Fact)>> = HashMap::new();
-    for (place, &fact) in facts.iter().enumerate() {
-        if let Some(end) = comes_after(way, triple, fact) {
-            after.entry(end).or_default().push((place, fact));
+/// Paths by domain or by range, over facts in the order in which they stand.
+struct Paths<'a> {
+    way: u32,
+    facts: &'a [Fact],
+    after: HashMap<End, Vec<(usize, Fact)>>,
+}
+
+impl<'a> Paths<'a> {
+    fn new(way: u32, facts: &'a [Fact]) -> Self {
+        let mut after: HashMap<End, Vec<(usize, Fact)>> = HashMap::new();
+        for (place, &fact) in facts.iter().enumerate() {
+            if let Some(end) = comes_after(way, fact) {
+                after.entry(end).or_default().push((place, fact));
+            }
         }
+        Paths { way, facts, after }
     }
-    let end_of = |path: &[Fact]| path.last().map_or(End::Nothing, |&fact| end(fact));
-    let mut reached = HashSet::new();
-    let mut layer = vec![vec![]];
-    while !layer.is_empty() {
-        let mut longer = Vec::new();
-        for path in layer {
-            let next = after.remove(&end_of(&path)).unwrap_or_default();
-            longer.extend(next.into_iter().map(|(place, fact)| (place, [&path[..], &[fact]].concat())));
+
+    /// The best path for the triple, if it has one of at most so many facts.
+    fn best(&self, triple: Fact, most: usize) -> Option<Vec<Fact>> {
+        if !self.facts.iter().any(|&fact| end(fact) == end(triple)) {
+            return None;
         }
-        // of the paths that lead to the same, the one stays whose last fact stands earliest
-        longer.sort();
-        layer = longer.into_iter().map(|(_, path)| path).filter(|path| reached.insert(end_of(path))).collect();
-        if let Some(path) = layer.iter().find(|path| end_of(path) == end(triple)) {
-            return Some(path.clone());
+        // of each path its last fact and the step before; of the next ones its place too
+        let mut steps: Vec<(Fact, Option<usize>)> = Vec::new();
+        let first = self.facts.iter().enumerate().filter(|(_, &fact)| begins(self.way, triple, fact));
+        let mut next: Vec<(usize, Fact, Option<usize>)> = first.map(|(place, &fact)| (place, fact, None)).collect();
+        let mut reached = HashSet::new();
+        for _ in 0..most {
+            // of the paths that lead to the same, the one stays whose last fact stands earliest
+            next.sort();
+            let layer = steps.len();
+            steps.extend(next.into_iter().filter(|&(_, fact, _)| reached.insert(end(fact))).map(|(_, fact, before)| (fact, before)));
+            if let Some(last) = (layer..steps.len()).find(|&i| end(steps[i].0) == end(triple)) {
+                return Some(back_from(&steps, last));
+            }
+            if layer == steps.len() {
+                return None;
+            }
+            let after = |i: usize| self.after.get(&end(steps[i].0)).into_iter().flatten();
+            next = (layer..steps.len()).flat_map(|i| after(i).map(move |&(place, fact)| (place, fact, Some(i)))).collect();
         }
+        None
     }
-    None
+}
+
+/// The facts of the path that ends with a step.
+fn back_from(steps: &[(Fact, Option<usize>)], last: usize) -> Vec<Fact> {
+    let mut path: Vec<Fact> = std::iter::successors(Some(last), |&i| steps[i].1).map(|i| steps[i].0).collect();
+    path.reverse();
+    path
 }
 
 /// The facts of the shortest of the best paths by each way, in printed order; of equally short ones, that by the first way.
-fn by_ways(ways: [u32; 2], facts: &[Fact], triple: Fact) -> Option<Vec<Fact>> {
-    let mut used = ways.into_iter().filter_map(|way| path(way, facts, triple)).min_by_key(Vec::len)?;
+fn by_ways(ways: &[Paths; 2], triple: Fact, most: usize) -> Option<Vec<Fact>> {
+    let mut used = ways.iter().filter_map(|paths| paths.best(triple, most)).min_by_key(Vec::len)?;
     used.sort_by_key(|&fact| phase(fact));
     Some(used)
 }
 
 /// The facts of the derivation that is printed, in printed order.
 pub fn chosen(facts: &[Fact], triple: Fact) -> Option<Vec<Fact>> {
-    by_ways([DOM, RANGE], facts, triple)
+    by_ways(&[DOM, RANGE].map(|way| Paths::new(way, facts)), triple, usize::MAX)
 }
 
 /// The same with range preferred to domain where both are as short.
 pub fn chosen_by_range(facts: &[Fact], triple: Fact) -> Option<Vec<Fact>> {
-    by_ways([RANGE, DOM], facts, triple)
+    by_ways(&[RANGE, DOM].map(|way| Paths::new(way, facts)), triple, usize::MAX)
 }
 
 /// The one that would be chosen if the table stood upside down.
@@ -134,4 +160,33 @@ pub fn several(facts: &[Fact], triple: Fact) -> bool {
     let others = [chosen_upward(facts, triple), chosen_by_range(facts, triple), chosen_by_range(&upward(facts), triple)];
     let chosen = chosen(facts, triple);
     others.iter().any(|other| *other != chosen)
+}
+
+/// Every triple that fills the gap with a term of the table or of the question. No other filling follows from the table: the
+/// subject and the object of what a rule gives are subjects or objects of its premises, so that whatever follows has only
+/// terms of table facts there.
+pub fn fillings(facts: &[Fact], triple: Fact) -> Vec<Fact> {
+    let terms: BTreeSet<u32> = facts.iter().flatten().copied().chain(triple).collect();
+    terms.into_iter().map(|term| filled(triple, term)).filter(|&fact| fills(triple, fact)).collect()
+}
+
+/// The fillings that have the least count of all, each with the facts of the derivation that is chosen for it alone.
+pub fn least_fillings(facts: &[Fact], triple: Fact) -> Vec<(Fact, Vec<Fact>)> {
+    let ways = [DOM, RANGE].map(|way| Paths::new(way, facts));
+    let mut least = usize::MAX;
+    let mut all = Vec::new();
+    for filled in fillings(facts, triple) {
+        // a longer one than the least so far need not be followed to its end
+        if let Some(used) = by_ways(&ways, filled, least) {
+            least = used.len();
+            all.push((filled, used));
+        }
+    }
+    all.retain(|(_, used)| used.len() == least);
+    all
+}
+
+/// The triple with its gap filled by the derivation that is printed, and the facts of that, in printed order.
+pub fn chosen_filling(facts: &[Fact], triple: Fact) -> Option<(Fact, Vec<Fact>)> {
+    least_fillings(facts, triple).into_iter().min_by_key(|(_, used)| rank(facts, used))
 }

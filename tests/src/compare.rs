@@ -1,4 +1,4 @@
-//! One input put to an implementation, its answer and every lent byte held against document 01 and the choice (`chosen`).
+//! One input put to an implementation, its answer and every lent byte held against the papers and the choice (`chosen`).
 use crate::calls::Calls;
 use crate::facts::*;
 use crate::lines::{in_order, line, DERIVATION_LINE, TABLE_LINE};
@@ -35,7 +35,7 @@ fn bytes(len: usize, salt: usize) -> Vec<u8> {
     fill(len, salt).map(|n| n as u8).collect()
 }
 
-/// Puts the input to the candidate; the answer and all memory must be document 01's.
+/// Puts the input to the candidate; the answer and all memory must be the papers'.
 pub fn compare(candidate: &dyn Calls, input: &Input) -> Verdict {
     match input {
         Input::Question { table, triple, allowance, paper } => question(candidate, table, *triple, *allowance, *paper),
@@ -58,8 +58,8 @@ fn same_answer(expected: u64, found: u64) -> Verdict {
     if expected == found {
         return Ok(());
     }
-    let words = |r: u64| format!("{} place {} count {} above {}", r & 255, r >> 8 & 0xff_ffff, r >> 32 & 0xffff, r >> 48);
-    Err(format!("answer {} where document 01 has {}", words(found), words(expected)))
+    let words = |r: u64| format!("{} place {} count {} filling {}", r & 255, r >> 8 & 0xff_ffff, r >> 32 & 0xffff, r >> 48);
+    Err(format!("answer {} where {} is due", words(found), words(expected)))
 }
 
 fn same<T: PartialEq>(expected: (u64, Vec<T>), found: (u64, Vec<T>)) -> Verdict {
@@ -70,22 +70,43 @@ fn same<T: PartialEq>(expected: (u64, Vec<T>), found: (u64, Vec<T>)) -> Verdict 
     }
 }
 
-/// Every byte of the paper is compared. Which shortest derivation a yes prints is the product's choice (`chosen`) and not
-/// document 01's; so it is first judged as a derivation, and one that makes no such choice need not print the same.
+/// Every byte of the paper is compared. Which shortest derivation a yes prints, and which term it names where several fill the
+/// gap as shortly, is the product's choice (`chosen`) and not the papers'; so what is named and printed is first judged, and
+/// one that makes no such choice need not name and print the same.
 fn question(candidate: &dyn Calls, table: &[u8], triple: Fact, allowance: u32, paper: usize) -> Verdict {
     let before = bytes(paper, table.len() + allowance as usize % 1000);
     let mut expected = lend(before.clone(), |paper| Faithful.question(table, triple, allowance, paper).packed());
     let found = lend(before, |paper| candidate.factbox_question(table, triple, allowance, paper));
+    let yes = expected.0 & 255 == u64::from(YES);
+    if yes && !candidate.chooses() {
+        expected.0 = (expected.0 << 16 >> 16) | (found.0 >> 48 << 48);
+    }
     same_answer(expected.0, found.0)?;
-    if expected.0 & 255 == u64::from(YES) {
-        let f = (expected.0 >> 32) as usize;
+    if yes {
+        let f = (expected.0 >> 32) as usize & 0xffff;
         let printed = GUARD..GUARD + DERIVATION_LINE * (2 * f - 1);
-        judge_printed(candidate, table, triple, f, &found.1[printed.clone()])?;
+        judge_yes(candidate, table, triple, f, (found.0 >> 48) as u32, &found.1[printed.clone()])?;
         if !candidate.chooses() {
             expected.1[printed.clone()].copy_from_slice(&found.1[printed]);
         }
     }
     same(expected, found)
+}
+
+/// A yes names nothing where there is no gap, and else a term that fills it, with no fewer table facts to follow from than
+/// the yes has. What is printed is a derivation of the filled triple. The check refuses the triple with the gap.
+fn judge_yes(candidate: &dyn Calls, table: &[u8], triple: Fact, f: usize, term: u32, printed: &[u8]) -> Verdict {
+    if gap(triple).is_none() {
+        let none = if term == 0 { Ok(()) } else { Err(format!("{term} named where there is no gap")) };
+        return none.and(judge_printed(candidate, table, triple, f, printed));
+    }
+    let filled = filled(triple, term);
+    let own = Faithful.table(table).ok().and_then(|facts| Faithful.chosen(&facts, filled)).map(|used| used.len());
+    if !fills(triple, filled) || own != Some(f) {
+        return Err(format!("{term} named, which fills the gap with {own:?} table lines and not with {f}"));
+    }
+    check(candidate, table, triple, printed).map_err(|e| format!("check of the triple with its gap: {e}"))?;
+    judge_printed(candidate, table, filled, f, printed)
 }
 
 fn check(candidate: &dyn Calls, table: &[u8], triple: Fact, derivation: &[u8]) -> Verdict {
@@ -127,12 +148,12 @@ fn program(candidate: &dyn Calls, input: &[u8]) -> Verdict {
     };
     for [s, p, o, allowance] in questions {
         let mut paper = vec![0; Faithful.paper(allowance.min(1024))];
-        let Answer { number, place, count } = Faithful.question(table, [s, p, o], allowance, &mut paper);
+        let Answer { number, place, count, filling } = Faithful.question(table, [s, p, o], allowance, &mut paper);
         rest = behind(rest, &line(&[number, place, count]))?;
         if number == YES {
             let f = count as usize;
             let printed = rest.get(..DERIVATION_LINE * (2 * f - 1)).ok_or("the derivation is cut short")?;
-            judge_printed(&Faithful, table, [s, p, o], f, printed)?;
+            judge_printed(&Faithful, table, filled([s, p, o], filling), f, printed)?;
             rest = behind(rest, &paper[..printed.len()])?;
         }
     }

@@ -1,4 +1,4 @@
-//! Terms, facts and answers (document 01, "Terms and facts" and the table of numbers).
+//! Terms, facts and answers (document 01, "Terms and facts" and the table of numbers; document 02, Point 1, for gaps).
 
 /// Subject, predicate, object. 32 bits wide, so that a number that is no term can be put, and refused.
 pub type Fact = [u32; 3];
@@ -30,6 +30,29 @@ pub fn well_formed([s, p, o]: Fact) -> bool {
     (is_name(s) || is_literal(s)) && (is_name(p) || is_vocabulary(p)) && (is_name(o) || is_literal(o))
 }
 
+/// Where a question's triple has its gap: the place of its only blank, 0 for the subject and 2 for the object. A blank
+/// predicate is no gap, and two blanks are none.
+pub fn gap(triple: Fact) -> Option<usize> {
+    match triple.map(is_blank) {
+        [true, false, false] => Some(0),
+        [false, false, true] => Some(2),
+        _ => None,
+    }
+}
+
+/// The triple with a term in its gap; the triple itself where it has none.
+pub fn filled(mut triple: Fact, term: u32) -> Fact {
+    if let Some(place) = gap(triple) {
+        triple[place] = term;
+    }
+    triple
+}
+
+/// The fact is well-formed and has the triple's terms but for its gap.
+pub fn fills(triple: Fact, fact: Fact) -> bool {
+    well_formed(fact) && (0..3).all(|place| gap(triple) == Some(place) || triple[place] == fact[place])
+}
+
 /// A data fact: predicate a name or type.
 pub fn is_data([_, p, _]: Fact) -> bool {
     is_name(p) || p == TYPE
@@ -57,21 +80,23 @@ pub struct Answer {
     pub number: u32,
     pub place: u32,
     pub count: u32,
+    /// What fills the gap, in a yes to a question that has one; else 0.
+    pub filling: u32,
 }
 
 /// An answer that is no refusal: place 0.
 pub fn answered(number: u32, count: usize) -> Answer {
-    Answer { number, place: 0, count: count as u32 }
+    Answer { number, place: 0, count: count as u32, filling: 0 }
 }
 
 /// A refusal: count 0.
 pub fn refused(number: u32, place: u32) -> Answer {
-    Answer { number, place, count: 0 }
+    Answer { number, place, count: 0, filling: 0 }
 }
 
 impl Answer {
-    /// As C gets it: bits 0-7 number, 8-31 place, 32-47 count, 48-63 zero.
+    /// As C gets it: bits 0-7 number, 8-31 place, 32-47 count, 48-63 filling.
     pub fn packed(self) -> u64 {
-        u64::from(self.number) | u64::from(self.place) << 8 | u64::from(self.count) << 32
+        u64::from(self.number) | u64::from(self.place) << 8 | u64::from(self.count) << 32 | u64::from(self.filling) << 48
     }
 }

@@ -1,4 +1,5 @@
-//! f, the fewest table lines of a derivation, by three algorithms that share nothing but the rules.
+//! f, the fewest table lines of a derivation, by three algorithms that share nothing but the rules. For a triple with a gap
+//! the first two count over whatever fills it; the third knows no gaps, and every filling is put to it in turn.
 //!
 //! - `by_subsets`: the definition. A derivation's table lines are a set of table facts whose closure holds the triple, and
 //!   every such set gives a derivation that lists each of its facts once. So f is the size of the least such set.
@@ -37,7 +38,7 @@ pub fn members(facts: &[Fact], set: u32) -> Vec<Fact> {
 }
 
 pub fn by_subsets(parts: &impl Parts, facts: &[Fact], triple: Fact) -> Option<usize> {
-    let holds = |set: u32| closure(parts, &members(facts, set)).contains(&triple);
+    let holds = |set: u32| closure(parts, &members(facts, set)).into_iter().any(|fact| fills(triple, fact));
     let all = (1 << facts.len()) - 1;
     let mut sets: Vec<u32> = (0..=all).collect();
     sets.sort_by_key(|set| set.count_ones());
@@ -49,7 +50,7 @@ pub fn by_cost(parts: &impl Parts, facts: &[Fact], triple: Fact) -> Option<usize
     let mut queue: BTreeSet<(usize, Fact)> = facts.iter().map(|&f| (1, f)).collect();
     let mut settled: HashMap<Fact, usize> = HashMap::new();
     while let Some((cost, fact)) = queue.pop_first() {
-        if fact == triple {
+        if fills(triple, fact) {
             return Some(cost);
         }
         if settled.contains_key(&fact) {

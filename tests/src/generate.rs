@@ -1,9 +1,9 @@
-//! The inputs on which implementations are compared: random ones from a seed, and all of some kinds (`systematic`).
+//! The inputs on which implementations are compared: random ones from a seed, and all of some kinds (`systematic`, `gaps`).
 use crate::compare::Input;
 use crate::facts::*;
 use crate::lines::{derivation_bytes, line, table_bytes, Line, DERIVATION_LINE, QUESTION_LINE, TABLE_LINE};
 use crate::parts::{Faithful, Parts};
-use crate::systematic;
+use crate::{cases, gaps, systematic};
 use std::collections::BTreeSet;
 
 /// A small generator of random numbers (splitmix64).
@@ -38,12 +38,13 @@ pub fn test_inputs() -> impl Iterator<Item = Input> {
     inputs(1, 120_000)
 }
 
-/// Every input of a run: as many random ones as asked for, and all of some kinds. The slow ones come last, so that what is
-/// wrong shows early.
+/// Every input of a run: as many random ones as asked for, and all of some kinds. Those that show most of what may be wrong come
+/// first.
 pub fn inputs(seed: u64, random: usize) -> impl Iterator<Item = Input> {
     let first = random_inputs(seed, random / 20);
     let rest = random_inputs(seed + 1, random - random / 20);
-    first.chain(systematic::short()).chain(rest).chain(systematic::long())
+    let early = cases::gaps().chain(first).chain(systematic::short());
+    early.chain(rest).chain(systematic::long()).chain(gaps::long()).chain(gaps::short())
 }
 
 /// Random inputs alone.
@@ -60,6 +61,7 @@ pub fn random_inputs(seed: u64, count: usize) -> impl Iterator<Item = Input> {
 
 // Numbers and bytes at which something changes.
 pub const NUMBERS: &[u32] = &[0, 1, 2, 3, 4, 5, 6, 7, 10, 39999, 40000, 40001, 59999, 60000, 65535, 65536, 65546, 99999];
+pub const BLANKS: &[u32] = &[60000, 60001, 65535];
 pub const WIDE_NUMBERS: &[u32] = &[100_000, 65_536 + 10, 131_072 + 13, 1 << 24 | 10, u32::MAX - 1, u32::MAX];
 pub const BYTES: &[u8] = b" 0123456789\n\t\r+-.ax/:\0\x80\xff";
 
@@ -140,10 +142,16 @@ fn any_table(r: &mut Random) -> (Vec<Fact>, Fact) {
     table(r, most)
 }
 
-/// The triple, or another of the table's terms, or one with numbers that may be refused.
+/// The triple, or one with a blank or two, or another of the table's terms, or one with numbers that may be refused.
 fn any_triple(r: &mut Random, facts: &[Fact], mut triple: Fact) -> Fact {
-    match r.below(8) {
+    match r.below(12) {
         0..=4 => {}
+        7..=9 => {
+            triple[r.pick(&[0, 0, 2, 2])] = r.pick(BLANKS);
+            if r.one_in(10) {
+                triple[r.below(3)] = r.pick(BLANKS);
+            }
+        }
         5 | 6 if !facts.is_empty() => {
             let fact = r.pick(facts);
             triple[r.below(3)] = r.pick(&fact);
@@ -207,7 +215,8 @@ fn any_room(r: &mut Random, need: usize) -> usize {
 // Random inputs, one function a call
 
 fn any_allowance(r: &mut Random, facts: &[Fact], triple: Fact) -> u32 {
-    let f = Faithful.fault(triple).map_or_else(|| Faithful.chosen(facts, triple).map_or(1, |d| d.len()), |_| 1) as u32;
+    let found = if Faithful.question_fault(triple).is_none() { Faithful.found(facts, triple) } else { None };
+    let f = found.map_or(1, |(_, used)| used.len()) as u32;
     match r.below(10) {
         0 | 1 => f - 1,
         2 => f + 1,

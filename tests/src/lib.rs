@@ -1,9 +1,11 @@
-//! An independent implementation of document 01 and its comparison with the static library and the program `factbox`.
+//! An independent implementation of document 01, with document 02's gaps, and its comparison with the static library and the
+//! program `factbox`.
 //!
 //! - `facts`, `lines`: terms, facts, answers; five-column fields.
 //! - `parts`: document 01 part by part. `fewest`: f by three algorithms. `chosen`: which shortest derivation is printed.
 //! - `calls`: the calls as C sees them. `library`: the static library and the program (feature `library`).
-//! - `generate`, `systematic`: the inputs. `compare`: one input put to two implementations.
+//! - `generate`, `systematic`, `gaps`: the inputs. `compare`: one input put to two implementations.
+//! - `stored`: questions whose outputs of before are stored.
 //! - `variants`: broken implementations, each of which the comparison must catch. `cases`: document 01's own cases.
 pub mod calls;
 pub mod cases;
@@ -11,10 +13,12 @@ pub mod chosen;
 pub mod compare;
 pub mod facts;
 pub mod fewest;
+pub mod gaps;
 pub mod generate;
 #[cfg(feature = "library")]
 pub mod library;
 pub mod lines;
 pub mod parts;
+pub mod stored;
 pub mod systematic;
 pub mod variants;

@@ -1,4 +1,4 @@
-//! Document 01, part by part, from its own words. Each part is a method of its own, so that a broken variant
+//! Document 01 with document 02's gaps, part by part, from their own words. Each part is a method of its own, so that a broken variant
 //! (`variants`) replaces one of them and shares the rest.
 use crate::chosen;
 use crate::facts::*;
@@ -26,6 +26,15 @@ pub trait Parts {
             Some(5)
         } else {
             None
+        }
+    }
+
+    /// The same of a question's triple. One with a gap is refused when it is so with a vocabulary term, with a name and with a
+    /// literal there: a fault that a term of each kind leaves is one of the other terms.
+    fn question_fault(&self, triple: Fact) -> Option<u32> {
+        match gap(triple) {
+            None => self.fault(triple),
+            Some(_) => [SC, 6, 40000].into_iter().map(|term| self.fault(filled(triple, term))).min().flatten(),
         }
     }
 
@@ -190,7 +199,7 @@ pub trait Parts {
     /// Table, triple, 7, 8.
     fn sound(&self, table: &[u8], triple: Fact, allowance: u32, paper: usize) -> Result<Vec<Fact>, Answer> {
         let facts = self.table(table)?;
-        match self.fault(triple) {
+        match self.question_fault(triple) {
             Some(number) => Err(refused(number, 0)),
             None if allowance as usize > MOST_FACTS => Err(refused(7, 0)),
             None if paper < self.paper(allowance) => Err(refused(8, 0)),
@@ -201,6 +210,24 @@ pub trait Parts {
     /// The facts of the derivation that is printed where the allowance is enough, in printed order; their number is f.
     fn chosen(&self, facts: &[Fact], triple: Fact) -> Option<Vec<Fact>> {
         chosen::chosen(facts, triple)
+    }
+
+    /// The same for a triple with a gap, and the triple filled.
+    fn chosen_filling(&self, facts: &[Fact], triple: Fact) -> Option<(Fact, Vec<Fact>)> {
+        chosen::chosen_filling(facts, triple)
+    }
+
+    /// The triple of which a derivation is printed, and the facts of that.
+    fn found(&self, facts: &[Fact], triple: Fact) -> Option<(Fact, Vec<Fact>)> {
+        match gap(triple) {
+            None => self.chosen(facts, triple).map(|used| (triple, used)),
+            Some(_) => self.chosen_filling(facts, triple),
+        }
+    }
+
+    /// What a yes names: the term in the gap, or 0.
+    fn named(&self, triple: Fact, filled: Fact, _used: &[Fact]) -> u32 {
+        gap(triple).map_or(0, |place| filled[place])
     }
 
     fn within(&self, f: usize, allowance: u32) -> bool {
@@ -238,14 +265,14 @@ pub trait Parts {
             Err(refusal) => return refusal,
             Ok(facts) => facts,
         };
-        match self.chosen(&facts, triple) {
+        match self.found(&facts, triple) {
             None => answered(NO, 0),
-            Some(used) if !self.within(used.len(), allowance) => answered(LONG, used.len()),
-            Some(used) => {
+            Some((_, used)) if !self.within(used.len(), allowance) => answered(LONG, used.len()),
+            Some((filled, used)) => {
                 let bytes = derivation_bytes(&self.derivation(&used));
                 let fits = bytes.len().min(paper.len());
                 paper[..fits].copy_from_slice(&bytes[..fits]);
-                answered(YES, used.len())
+                Answer { filling: self.named(triple, filled, &used), ..answered(YES, used.len()) }
             }
         }
     }
@@ -273,7 +300,7 @@ pub trait Parts {
         let mut output = Vec::new();
         for [s, p, o, allowance] in questions {
             let mut paper = vec![0; self.paper(allowance.min(MOST_FACTS as u32))];
-            let Answer { number, place, count } = self.question(table, [s, p, o], allowance, &mut paper);
+            let Answer { number, place, count, .. } = self.question(table, [s, p, o], allowance, &mut paper);
             output.extend(line(&[number, place, count]));
             if number == YES {
                 output.extend(paper.iter().take(DERIVATION_LINE * (2 * count as usize - 1)));

@@ -17,7 +17,7 @@ pub fn long() -> impl Iterator<Item = Input> {
 }
 
 /// The bytes with each byte in turn replaced by each of some.
-fn replaced(bytes: Vec<u8>, by: impl Iterator<Item = u8> + Clone) -> impl Iterator<Item = Vec<u8>> {
+pub fn replaced(bytes: Vec<u8>, by: impl Iterator<Item = u8> + Clone) -> impl Iterator<Item = Vec<u8>> {
     (0..bytes.len()).flat_map(move |i| {
         let bytes = bytes.clone();
         by.clone().map(move |b| {
@@ -28,7 +28,7 @@ fn replaced(bytes: Vec<u8>, by: impl Iterator<Item = u8> + Clone) -> impl Iterat
     })
 }
 
-fn example() -> (Vec<u8>, Fact, Vec<u8>) {
+pub fn example() -> (Vec<u8>, Fact, Vec<u8>) {
     let triple = [10, 5, 12];
     let used = Faithful.chosen(&T, triple).expect("case b");
     (table_bytes(&T), triple, derivation_bytes(&Faithful.derivation(&used)))
@@ -92,6 +92,13 @@ fn every_line() -> impl Iterator<Item = Input> {
     })
 }
 
+/// Triples put with and without a gap, and with each fault.
+fn put() -> impl Iterator<Item = Fact> {
+    let whole = [[10, 5, 12], [10, 5, 11], [0, 40000, 60000], [10, 60000, 1], [10, 40000, 6], [1, 60000, 65536], [65546, 5, 12]];
+    let gaps = [[60000, 5, 12], [10, 5, 65535], [60000, 5, 60000], [60000, 40000, 6], [3, 7, 60000]];
+    whole.into_iter().chain(gaps)
+}
+
 /// Every refusal of the table with every fault of the triple, of the allowance and the paper, or of the derivation.
 fn every_precedence() -> impl Iterator<Item = Input> {
     let (good, _, derivation) = example();
@@ -107,8 +114,6 @@ fn every_precedence() -> impl Iterator<Item = Input> {
     bad_step[31 + 4] = b'1';
     let both = [&bad_step[..31 * 6], &bad_form[31 * 6..]].concat();
     let derivations = [derivation.clone(), vec![], derivation[1..].to_vec(), bad_form, bad_step, both, derivation[..31 * 5].to_vec()];
-    let put =
-        || [[10, 5, 12], [10, 5, 11], [0, 40000, 60000], [10, 60000, 1], [10, 40000, 6], [1, 60000, 65536], [65546, 5, 12]].into_iter();
     let again = tables.clone();
     let question = tables.into_iter().flat_map(move |table| {
         put().flat_map(move |triple| {
@@ -138,7 +143,7 @@ fn name(i: usize, step: usize) -> u32 {
 }
 
 /// n facts with this predicate that lead from one name to another, and the triple derived from all of them.
-fn chain(n: usize, predicate: u32, step: usize) -> (Vec<Fact>, Fact) {
+pub fn chain(n: usize, predicate: u32, step: usize) -> (Vec<Fact>, Fact) {
     let name = |i: usize| name(i, step);
     let mut facts: Vec<Fact> = (0..n).map(|i| [name(i), predicate, name(i + 1)]).collect();
     facts.sort();
@@ -147,7 +152,7 @@ fn chain(n: usize, predicate: u32, step: usize) -> (Vec<Fact>, Fact) {
 
 /// About n facts with this predicate that lead from one name to another over layers of names, from each name to two of the
 /// next layer; and the triple derived.
-fn lattice(n: usize, predicate: u32, width: usize, step: usize) -> (Vec<Fact>, Fact) {
+pub fn lattice(n: usize, predicate: u32, width: usize, step: usize) -> (Vec<Fact>, Fact) {
     let (first, last, depth) = (name(0, step), name(2002, step), (n / (2 * width)).max(1));
     let node = |layer: usize, i: usize| name(1 + layer * width + i % width, step);
     let ends = (0..width).flat_map(|i| [[first, predicate, node(0, i)], [node(depth - 1, i), predicate, last]]);
@@ -159,7 +164,7 @@ fn lattice(n: usize, predicate: u32, width: usize, step: usize) -> (Vec<Fact>, F
 }
 
 /// The facts of each kind of derivation, n where a chain has as many facts as asked for, and its triple.
-fn kinds(n: usize, chain: impl Fn(usize, u32) -> (Vec<Fact>, Fact)) -> Vec<(Vec<Fact>, Fact)> {
+pub fn kinds(n: usize, chain: impl Fn(usize, u32) -> (Vec<Fact>, Fact)) -> Vec<(Vec<Fact>, Fact)> {
     let (x, y) = (39998, 40000);
     let mut kinds = vec![chain(n, SC), chain(n, SP)];
     let (classes, [class, _, last_class]) = chain(n - 1, SC);
@@ -201,7 +206,7 @@ fn every_allowance() -> impl Iterator<Item = Input> {
 }
 
 /// The facts as a table with a question, put to the call, and to the program as well where that is said.
-fn asked(facts: &[Fact], triple: Fact, allowance: u32, program: bool) -> impl Iterator<Item = Input> {
+pub fn asked(facts: &[Fact], triple: Fact, allowance: u32, program: bool) -> impl Iterator<Item = Input> {
     let (table, [s, p, o]) = (table_bytes(facts), triple);
     let input = [&table[..], &line(&[0; 3]), &line(&[s, p, o, allowance])].concat();
     let question = Input::Question { table, triple, allowance, paper: Faithful.paper(allowance) + 5 };

@@ -1,7 +1,7 @@
-//! Broken implementations, each wrong in one part, among them the jams that document 01 expects. The comparison must catch
-//! every one of them; where it does not, it is too weak.
+//! Broken implementations, each wrong in one part, among them the jams that document 01 expects and what easily goes wrong
+//! with a gap. The comparison must catch every one of them; where it does not, it is too weak.
 use crate::calls::Calls;
-use crate::chosen::{all_shortest, chosen_by_range, chosen_upward, rank};
+use crate::chosen::{all_shortest, chosen_by_range, chosen_upward, fillings, least_fillings, rank};
 use crate::facts::*;
 use crate::fewest;
 use crate::lines::{self, line, table_bytes, Line, DERIVATION_LINE, QUESTION_LINE, TABLE_LINE};
@@ -9,85 +9,110 @@ use crate::parts::{Faithful, Parts};
 use std::cmp::Reverse;
 use std::collections::BTreeSet;
 
-type Named = (&'static str, Box<dyn Calls>);
+pub type Named = (String, Box<dyn Calls>);
 
 /// Variants that try everything are faithful on tables of more facts.
 const SMALL: usize = 12;
 
-/// Variants that replace one and the same method: its signature, then a name and a body for each; and the list of them.
+/// Variants that replace one and the same method: its signature, then a name and a body for each; and the list of them. They
+/// are of one type, with the body in it, so that all the other methods are compiled once.
 macro_rules! variants {
     ($list:ident: $method:ident $arguments:tt -> $result:ty; $($name:ident => $body:expr,)+) => {
-        $(
-            struct $name;
-            impl Parts for $name {
-                fn $method $arguments -> $result { $body }
-            }
-        )+
-        fn $list() -> Vec<Named> { vec![$((stringify!($name), Box::new($name))),+] }
+        fn $list() -> Vec<Named> {
+            variants!(@type $method $arguments -> $result);
+            vec![$((stringify!($name).to_string(), Box::new(variants!(@of $arguments $body)))),+]
+        }
     };
+    (@type $method:ident(&self, $($argument:ident: $type:ty),+) -> $result:ty) => {
+        struct Replaced(fn($($type),+) -> $result);
+        impl Parts for Replaced {
+            fn $method(&self, $($argument: $type),+) -> $result {
+                (self.0)($($argument),+)
+            }
+        }
+    };
+    (@of (&self, $($argument:ident: $type:ty),+) $body:expr) => {
+        Replaced(|$($argument),+| $body)
+    };
+}
+
+/// Variants that choose otherwise among the fillings of the least count, which the papers leave free.
+pub fn free_choices() -> Vec<Named> {
+    of_least()
 }
 
 /// Every variant with its name.
 pub fn all() -> Vec<Named> {
-    let single: Vec<Named> = vec![("LineEndIgnored", Box::new(LineEndIgnored))];
+    let single: Vec<Named> =
+        vec![("LineEndIgnored".into(), Box::new(LineEndIgnored)), ("GapInTablePasses".into(), Box::new(GapInTablePasses))];
     let question = [of_chosen(), of_choice(), of_within(), of_question(), of_sound(), of_join(), of_derivation()];
-    let check = [of_gives(), of_table_lines(), of_judge(), of_ends_in(), of_premise(), of_justified(), of_in_table()];
+    let check = [in_check(), of_table_lines(), of_judge(), of_ends_in(), of_premise(), of_justified(), of_in_table()];
     let table = [of_place(), of_above(), of_number(), of_fault(), of_table(), of_read(), of_row(), of_write(), single];
     let program = [of_divider(), of_program()];
-    question.into_iter().chain([in_search()]).chain(check).chain(table).chain(program).flatten().collect()
+    let gaps = [of_filling(), of_least(), of_named(), of_question_fault(), of_gapped_question(), of_gapped_check()];
+    question.into_iter().chain([in_search()]).chain(gaps).chain(check).chain(table).chain(program).flatten().collect()
 }
 
-// Rules. As they stand they break the check alone.
+// Rules
 
-variants! { of_gives: gives(&self, rule: u32, p: Fact, q: Fact) -> Option<Fact>;
-    LiteralBarredInChain => Faithful.gives(rule, p, q).filter(|_| rule != 1 || !is_literal(p[2])),
-    LiteralPredicate => match (rule, p, q) {
+/// What a rule gives from two facts.
+type Rules = fn(u32, Fact, Fact) -> Option<Fact>;
+
+/// Broken rules, each with its name.
+const RULES: &[(&str, Rules)] = &[
+    ("LiteralBarredInChain", |rule, p, q| Faithful.gives(rule, p, q).filter(|_| rule != 1 || !is_literal(p[2]))),
+    ("LiteralPredicate", |rule, p, q| match (rule, p, q) {
         (2, [a, SP, b], [x, a2, y]) if a == a2 => Some([x, b, y]),
         _ => Faithful.gives(rule, p, q),
-    },
-    DomainHandedDown => match (rule, p, q) {
+    }),
+    ("DomainHandedDown", |rule, p, q| match (rule, p, q) {
         (1, [a, SP, b], [b2, DOM, c]) if b == b2 => Some([a, DOM, c]),
         _ => Faithful.gives(rule, p, q),
-    },
-    DomainHandedUp => match (rule, p, q) {
+    }),
+    ("DomainHandedUp", |rule, p, q| match (rule, p, q) {
         (3, [a, DOM, b], [b2, SC, c]) if b == b2 => Some([a, DOM, c]),
         _ => Faithful.gives(rule, p, q),
-    },
-    RangeTypesSubject => match (rule, p, q) {
+    }),
+    ("RangeTypesSubject", |rule, p, q| match (rule, p, q) {
         (6, [a, RANGE, b], [x, a2, _]) if a == a2 => Some([x, TYPE, b]),
         _ => Faithful.gives(rule, p, q),
-    },
-    LiteralHasNoType => Faithful.gives(rule, p, q).filter(|given| given[1] != TYPE || !is_literal(given[0])),
-    SubpropertyNotTransitive => Faithful.gives(rule, p, q).filter(|_| rule != 1),
-    NoCycles => Faithful.gives(rule, p, q).filter(|given| given[1] > SP || given[0] != given[2]),
-    PremisesEitherWay => Faithful.gives(rule, p, q).or_else(|| Faithful.gives(rule, q, p)),
+    }),
+    ("LiteralHasNoType", |rule, p, q| Faithful.gives(rule, p, q).filter(|given| given[1] != TYPE || !is_literal(given[0]))),
+    ("SubpropertyNotTransitive", |rule, p, q| Faithful.gives(rule, p, q).filter(|_| rule != 1)),
+    ("NoCycles", |rule, p, q| Faithful.gives(rule, p, q).filter(|given| given[1] > SP || given[0] != given[2])),
+    ("PremisesEitherWay", |rule, p, q| Faithful.gives(rule, p, q).or_else(|| Faithful.gives(rule, q, p))),
+];
+
+/// A check by broken rules, with a search by the true ones.
+struct InCheck(Rules);
+impl Parts for InCheck {
+    fn gives(&self, rule: u32, p: Fact, q: Fact) -> Option<Fact> {
+        (self.0)(rule, p, q)
+    }
+}
+
+fn in_check() -> Vec<Named> {
+    RULES.iter().map(|&(name, rules)| (name.to_string(), Box::new(InCheck(rules)) as Box<dyn Calls>)).collect()
 }
 
 /// A search by broken rules, with a check by the true ones.
-struct InSearch<R>(R);
-impl<R: Parts> Parts for InSearch<R> {
+struct InSearch(Rules);
+impl Parts for InSearch {
     /// On tables small enough: f by the broken rules, with a derivation of as many facts or with nothing in particular.
     fn chosen(&self, facts: &[Fact], triple: Fact) -> Option<Vec<Fact>> {
         let faithful = Faithful.chosen(facts, triple);
         if facts.len() > SMALL {
             return faithful;
         }
-        let f = fewest::by_cost(&self.0, facts, triple)?;
+        let f = fewest::by_cost(&InCheck(self.0), facts, triple)?;
         Some(faithful.filter(|used| used.len() == f).unwrap_or(vec![triple; f]))
     }
 }
 
 fn in_search() -> Vec<Named> {
-    vec![
-        ("LiteralBarredInChain in the search", Box::new(InSearch(LiteralBarredInChain))),
-        ("LiteralPredicate in the search", Box::new(InSearch(LiteralPredicate))),
-        ("DomainHandedDown in the search", Box::new(InSearch(DomainHandedDown))),
-        ("DomainHandedUp in the search", Box::new(InSearch(DomainHandedUp))),
-        ("RangeTypesSubject in the search", Box::new(InSearch(RangeTypesSubject))),
-        ("LiteralHasNoType in the search", Box::new(InSearch(LiteralHasNoType))),
-        ("SubpropertyNotTransitive in the search", Box::new(InSearch(SubpropertyNotTransitive))),
-        ("NoCycles in the search", Box::new(InSearch(NoCycles))),
-    ]
+    // a search puts the premises in their order itself
+    let rules = RULES.iter().filter(|(name, _)| *name != "PremisesEitherWay");
+    rules.map(|&(name, rules)| (format!("{name} in the search"), Box::new(InSearch(rules)) as Box<dyn Calls>)).collect()
 }
 
 // The question
@@ -141,9 +166,17 @@ fn backward(mut places: Vec<usize>) -> Vec<usize> {
     places
 }
 
+/// Chooses as if the table stood upside down.
+struct LastFound;
+impl Parts for LastFound {
+    fn chosen(&self, facts: &[Fact], triple: Fact) -> Option<Vec<Fact>> {
+        chosen_upward(facts, triple)
+    }
+}
+
 variants! { of_choice: chosen(&self, facts: &[Fact], triple: Fact) -> Option<Vec<Fact>>;
     AnyShortest => fewest::ways(facts, triple).into_iter().min_by_key(Vec::len),
-    LastShortest => chosen_upward(facts, triple),
+    LastShortest => LastFound.chosen(facts, triple),
     LastSubclassChain => last_if(triple[1] == SC, facts, triple),
     LastSubpropertyChain => last_if(triple[1] == SP, facts, triple),
     LastType => last_if(triple[1] == TYPE, facts, triple),
@@ -224,6 +257,246 @@ variants! { of_derivation: derivation(&self, facts: &[Fact]) -> Vec<Line>;
         facts.iter().map(|&f| Line::of_table(f)).chain(rules).collect()
     },
     FactTwice => [vec![Line::of_table(facts[0])], Faithful.derivation(facts)].concat(),
+}
+
+// Gaps
+
+/// A filling with the facts of its derivation.
+type Filled = (Fact, Vec<Fact>);
+
+/// Every filling that follows, with the derivation chosen for it, in the order of the terms.
+fn all_fillings(facts: &[Fact], triple: Fact) -> Vec<Filled> {
+    fillings(facts, triple).into_iter().filter_map(|filled| Some((filled, Faithful.chosen(facts, filled)?))).collect()
+}
+
+/// A path for some filling may begin with the fact.
+fn may_begin(triple: Fact, fact: Fact) -> bool {
+    let ([x, p, y], [s, q, o]) = (triple, fact);
+    let same = |t: u32, u: u32| is_blank(t) || t == u;
+    match p {
+        SC | SP => q == p && same(x, s),
+        DOM | RANGE => fills(triple, fact),
+        TYPE => is_data(fact) && (same(x, s) || same(x, o)),
+        _ => is_name(q) && same(x, s) && same(y, o),
+    }
+}
+
+variants! { of_filling: chosen_filling(&self, facts: &[Fact], triple: Fact) -> Option<Filled>;
+    GapIsAPlainTerm => Faithful.chosen(facts, triple).map(|used| (triple, used)),
+    FirstFilling => all_fillings(facts, triple).into_iter().next(),
+    LastFilling => all_fillings(facts, triple).into_iter().next_back(),
+    LongestFilling => all_fillings(facts, triple).into_iter().max_by_key(|(_, used)| used.len()),
+    FirstMatchingFactAlone => {
+        let first = facts.iter().find(|&&fact| may_begin(triple, fact))?;
+        let begin_with = |used: &[Fact]| used.iter().find(|&&f| is_data(f)).or(used.first()) == Some(first);
+        all_fillings(facts, triple).into_iter().filter(|(_, used)| begin_with(used)).min_by_key(|(_, used)| used.len())
+    },
+    FirstMatchingSubjectAlone => {
+        let first = facts.iter().find(|&&fact| may_begin(triple, fact))?;
+        let of_first = |(filled, _): &Filled| filled[0] == first[0] || filled[0] == first[2];
+        all_fillings(facts, triple).into_iter().filter(of_first).min_by_key(|(_, used)| used.len())
+    },
+    ClassItselfAssumed => match triple {
+        [s, SC, o] if is_blank(s) => Some(([o, SC, o], vec![[o, SC, o]])),
+        _ => Faithful.chosen_filling(facts, triple),
+    },
+    ClassItselfByCycle => {
+        let [s, p, o] = triple;
+        let itself = if is_blank(s) { [o, p, o] } else { [s, p, s] };
+        let by_cycle = Faithful.chosen(facts, itself).filter(|_| p == SC).map(|used| (itself, used));
+        by_cycle.or_else(|| Faithful.chosen_filling(facts, triple))
+    },
+    OtherEndNeverFills => Faithful.chosen_filling(facts, triple).filter(|(filled, _)| filled[0] != filled[2]),
+    LiteralNeverFills => Faithful.chosen_filling(facts, triple).filter(|(filled, _)| !is_literal(filled[gap(triple).unwrap_or(1)])),
+    OnlySubjectsFill => {
+        let subject = |term: u32| facts.iter().any(|fact| fact[0] == term);
+        Faithful.chosen_filling(facts, triple).filter(|(filled, _)| subject(filled[gap(triple).unwrap_or(1)]))
+    },
+    DomainThoughLonger => {
+        let by = |way: u32| fewest_by(facts, triple, |used| !used.iter().any(|f| f[1] == way));
+        if triple[1] == TYPE { by(RANGE).or_else(|| by(DOM)) } else { Faithful.chosen_filling(facts, triple) }
+    },
+    NoByDomain => fewest_by(facts, triple, |used| triple[1] != TYPE || !used.iter().any(|f| f[1] == DOM)),
+    NoByRange => fewest_by(facts, triple, |used| triple[1] != TYPE || !used.iter().any(|f| f[1] == RANGE)),
+    NoToEveryGap => Faithful.chosen_filling(facts, triple).filter(|_| facts.len() > 1024),
+}
+
+/// Of the fillings whose own derivation passes a test, the one of the smallest count and least rank.
+fn fewest_by(facts: &[Fact], triple: Fact, passes: impl Fn(&[Fact]) -> bool) -> Option<Filled> {
+    let some = all_fillings(facts, triple).into_iter().filter(|(_, used)| passes(used));
+    some.min_by_key(|(_, used)| (used.len(), rank(facts, used)))
+}
+
+/// Of the fillings of the least count the one with the least key, which is made from the filling and its derivation's rank.
+fn least_by<K: Ord>(facts: &[Fact], triple: Fact, key: impl Fn(&Filled, bool, Vec<usize>) -> K) -> Option<Filled> {
+    least_fillings(facts, triple).into_iter().min_by_key(|found| {
+        let (by_range, places) = rank(facts, &found.1);
+        key(found, by_range, places)
+    })
+}
+
+variants! { of_least: chosen_filling(&self, facts: &[Fact], triple: Fact) -> Option<Filled>;
+    SmallestTermOnTie => least_by(facts, triple, |(filled, _), _, _| *filled),
+    LargestTermOnTie => least_by(facts, triple, |(filled, _), _, _| Reverse(*filled)),
+    LastFillingOnTie => least_by(facts, triple, |_, by_range, places| Reverse((by_range, places))),
+    RangeFillingOnTie => least_by(facts, triple, |_, by_range, places| (!by_range, places)),
+    WaysAlikeInFillings => least_by(facts, triple, |_, _, places| places),
+    EarliestFirstFactOfFillings => least_by(facts, triple, |_, by_range, places| (by_range, backward(places))),
+    EarliestLastFactOfFillings => least_by(facts, triple, |_, by_range, places| (by_range, places[0], Reverse(places))),
+    LastShortestOfFilling => Faithful.chosen_filling(facts, triple).and_then(|(filled, _)| Some((filled, chosen_upward(facts, filled)?))),
+    SmallestTermInFullTable => least_by(facts, triple, |(filled, _), by_range, places| {
+        (if facts.len() > 1000 { *filled } else { [0; 3] }, by_range, places)
+    }),
+}
+
+/// The data fact of a derivation by range.
+fn ranged(triple: Fact, used: &[Fact]) -> Option<Fact> {
+    let by_range = triple[1] == TYPE && used.iter().any(|f| f[1] == RANGE);
+    used.iter().copied().find(|&f| by_range && is_name(f[1]))
+}
+
+variants! { of_named: named(&self, triple: Fact, filled: Fact, used: &[Fact]) -> u32;
+    // the filled triple has no gap
+    NothingNamed => Faithful.named(filled, triple, used),
+    BlankNamed => gap(triple).map_or(Faithful.named(triple, filled, used), |place| triple[place]),
+    SubjectNamedForRange => match ranged(triple, used) {
+        Some([s, _, _]) if gap(triple) == Some(0) => s,
+        _ => Faithful.named(triple, filled, used),
+    },
+    PredicateNamedForObject => match gap(triple) {
+        Some(2) if is_name(filled[1]) => filled[1],
+        _ => Faithful.named(triple, filled, used),
+    },
+    FirstFactsSubjectNamed => gap(triple).map_or(0, |place| if place == 0 { used[0][0] } else { filled[2] }),
+    FirstFactsObjectNamed => gap(triple).map_or(0, |place| if place == 2 { used[0][2] } else { filled[0] }),
+    SubjectNamedWithoutGap => gap(triple).map_or(filled[0], |_| Faithful.named(triple, filled, used)),
+}
+
+/// The refusal of the triple with a name in place of every blank.
+fn with_names(triple: Fact) -> Option<u32> {
+    Faithful.fault(triple.map(|term| if is_blank(term) { 6 } else { term }))
+}
+
+fn blanks(triple: Fact) -> usize {
+    triple.into_iter().filter(|&term| is_blank(term)).count()
+}
+
+variants! { of_question_fault: question_fault(&self, triple: Fact) -> Option<u32>;
+    GapRefused => Faithful.fault(triple),
+    SubjectGapRefused => if gap(triple) == Some(0) { Faithful.fault(triple) } else { Faithful.question_fault(triple) },
+    ObjectGapRefused => if gap(triple) == Some(2) { Faithful.fault(triple) } else { Faithful.question_fault(triple) },
+    TwoBlanksPass => if is_blank(triple[1]) { Faithful.fault(triple) } else { with_names(triple) },
+    TwoEqualBlanksPass => if triple[0] == triple[2] && blanks(triple) == 2 { with_names(triple) } else { Faithful.question_fault(triple) },
+    TwoUnequalBlanksPass => match triple {
+        [s, p, o] if s != o && !is_blank(p) => with_names(triple),
+        _ => Faithful.question_fault(triple),
+    },
+    BlankPredicatePasses => if blanks(triple) == 1 { with_names(triple) } else { Faithful.fault(triple) },
+    ThreeBlanksPass => if blanks(triple) == 3 { None } else { Faithful.question_fault(triple) },
+    FirstBlankAlone => match gap(triple) {
+        Some(place) if triple[place] != 60000 => Some(4),
+        _ => Faithful.question_fault(triple),
+    },
+    LastBlankUnknown => if triple.contains(&65535) { Faithful.fault(triple) } else { Faithful.question_fault(triple) },
+    LastLiteralIsAGap => if [triple[0], triple[2]].contains(&59999) { Some(4) } else { Faithful.question_fault(triple) },
+    PartUntriedWithGap => Faithful.question_fault(triple).filter(|&number| gap(triple).is_none() || number != 5),
+    TermUntriedWithGap => Faithful.question_fault(triple).filter(|&number| gap(triple).is_none() || number != 3),
+    BlankBeforeTerm => if is_blank(triple[1]) || blanks(triple) > 1 { Some(4) } else { Faithful.question_fault(triple) },
+    PartBeforeTwoBlanks => match Faithful.question_fault(triple) {
+        Some(4) if with_names(triple) == Some(5) => Some(5),
+        fault => fault,
+    },
+}
+
+variants! { of_gapped_question: question(&self, table: &[u8], triple: Fact, allowance: u32, paper: &mut [u8]) -> Answer;
+    FirstThatFits => {
+        let answer = Faithful.question(table, triple, allowance, paper);
+        let facts = Faithful.table(table).unwrap_or_default();
+        let fits = |(_, used): &Filled| Faithful.within(used.len(), allowance);
+        match all_fillings(&facts, triple).into_iter().find(fits).filter(|_| answer.number == YES && gap(triple).is_some()) {
+            Some((filled, used)) => {
+                let bytes = lines::derivation_bytes(&Faithful.derivation(&used));
+                paper[..bytes.len()].copy_from_slice(&bytes);
+                Answer { filling: Faithful.named(triple, filled, &used), ..answered(YES, used.len()) }
+            }
+            None => answer,
+        }
+    },
+    CountOfFirstFilling => {
+        let answer = Faithful.question(table, triple, allowance, paper);
+        let facts = Faithful.table(table).unwrap_or_default();
+        match all_fillings(&facts, triple).first().filter(|_| answer.count > 0 && gap(triple).is_some()) {
+            Some((_, used)) => Answer { count: used.len() as u32, ..answer },
+            None => answer,
+        }
+    },
+    LongNames => match Faithful.question(table, triple, allowance, paper) {
+        Answer { number: LONG, count, .. } => {
+            let facts = Faithful.table(table).unwrap_or_default();
+            let filling = Faithful.found(&facts, triple).map_or(0, |(filled, used)| Faithful.named(triple, filled, &used));
+            Answer { filling, ..answered(LONG, count as usize) }
+        }
+        answer => answer,
+    },
+    NoNamesTheBlank => match Faithful.question(table, triple, allowance, paper) {
+        Answer { number: NO, .. } => Answer { filling: gap(triple).map_or(0, |place| triple[place]), ..answered(NO, 0) },
+        answer => answer,
+    },
+    RefusalNamesTheBlank => match Faithful.question(table, triple, allowance, paper) {
+        answer if answer.number < YES => Answer { filling: gap(triple).map_or(0, |place| triple[place]), ..answer },
+        answer => answer,
+    },
+    LastLineUnfilled => {
+        let answer = Faithful.question(table, triple, allowance, paper);
+        let end = DERIVATION_LINE * (2 * answer.count as usize).saturating_sub(1);
+        if answer.number == YES {
+            paper[end - TABLE_LINE..end].copy_from_slice(&line(&triple));
+        }
+        answer
+    },
+    PaperByCountWithGap => {
+        // paper that is too short for the allowance and enough for the derivation
+        let more = Faithful.paper(allowance.min(1024)).saturating_sub(paper.len());
+        let mut longer = [&paper[..], &vec![0; more]].concat();
+        let answer = Faithful.question(table, triple, allowance, &mut longer);
+        let fits = Faithful.paper(answer.count) <= paper.len();
+        if gap(triple).is_none() || !fits {
+            return Faithful.question(table, triple, allowance, paper);
+        }
+        paper.copy_from_slice(&longer[..paper.len()]);
+        answer
+    },
+}
+
+variants! { of_gapped_check: judge(&self, table: &[u8], triple: Fact, derivation: &[u8]) -> Result<usize, Answer>;
+    GapAcceptedByCheck => {
+        let last = Faithful.lines(derivation).ok().and_then(|lines| lines.last().map(|line| line.fact));
+        let put = last.filter(|&fact| gap(triple).is_some() && fills(triple, fact)).unwrap_or(triple);
+        Faithful.judge(table, put, derivation)
+    },
+    GapRefusedAsTheEnd => match Faithful.judge(table, triple, derivation) {
+        Err(Answer { number: 4, place: 0, .. }) if gap(triple).is_some() => {
+            let lines = Faithful.lines(derivation)?;
+            Err(refused(11, lines.len() as u32))
+        }
+        verdict => verdict,
+    },
+    BlankOfALineIsBlank => match Faithful.judge(table, triple, derivation) {
+        Err(Answer { number: 10, place, .. }) => {
+            let lines = Faithful.lines(derivation)?;
+            Err(refused(if blanks(lines[place as usize - 1].fact) > 0 { 4 } else { 10 }, place))
+        }
+        verdict => verdict,
+    },
+}
+
+struct GapInTablePasses;
+impl Parts for GapInTablePasses {
+    fn facts(&self, lines: impl Iterator<Item = Option<Fact>>) -> Result<Vec<Fact>, Answer> {
+        let lines: Vec<Option<Fact>> = lines.collect();
+        let with_literals = lines.iter().map(|line| line.map(|fact| filled(fact, 40000)));
+        Faithful.facts(with_literals).map(|_| lines.into_iter().flatten().collect())
+    }
 }
 
 // The check
@@ -377,7 +650,7 @@ variants! { of_divider: divider(&self, input: &[u8]) -> Option<usize>;
 }
 
 variants! { of_program: program(&self, input: &[u8]) -> Vec<u8>;
-    LastShortestInProgram => LastShortest.program(input),
+    LastShortestInProgram => LastFound.program(input),
     OneRefusalForTheTable => match Faithful.questions(input).map(|(table, _)| Faithful.table(table)) {
         Some(Err(refusal)) => line(&[refusal.number, refusal.place, 0]),
         _ => Faithful.program(input),

@@ -1,6 +1,6 @@
 //! The independent implementation against itself: its algorithms for f, its choice among the shortest derivations, document
 //! 01's own cases, and what it prints.
-use factbox_tests::chosen::{all_shortest, rank, several};
+use factbox_tests::chosen::{all_shortest, fillings, least_fillings, rank, several};
 use factbox_tests::compare::compare;
 use factbox_tests::facts::*;
 use factbox_tests::fewest::{by_cost, by_subsets, closure, ways};
@@ -76,12 +76,100 @@ fn the_chosen_derivation_is_the_one_of_least_rank_among_all_shortest_ones() {
     assert!(counts[2..6].iter().all(|&n| n > 20), "{counts:?}");
 }
 
+/// The triples with a gap at the subject and with one at the object.
+fn with_gaps(triples: Vec<Fact>) -> impl Iterator<Item = Fact> {
+    triples.into_iter().flat_map(|[s, p, o]| [[60000, p, o], [s, p, 65535]])
+}
+
+/// The triple filled with each of the table's terms, and with a name and a literal that occur nowhere.
+fn filled_with_more(facts: &[Fact], triple: Fact) -> Vec<Fact> {
+    fillings(facts, triple).into_iter().chain([39_990, 59_990].map(|term| filled(triple, term))).collect()
+}
+
+fn count_found(facts: &[Fact], triple: Fact) -> Option<usize> {
+    Faithful.found(facts, triple).map(|(filled, used)| {
+        assert!(fills(triple, filled), "{triple:?} filled to {filled:?} over {facts:?}");
+        used.len()
+    })
+}
+
+#[test]
+fn with_a_gap_the_least_subset_and_the_uniform_cost_and_every_filling_by_itself_agree() {
+    let mut counts = [0; 8];
+    for (n, (facts, triples)) in questions(5, 4000, 7).enumerate() {
+        for triple in with_gaps(triples) {
+            let f = count_found(&facts, triple);
+            assert_eq!(f, by_cost(&Faithful, &facts, triple), "by cost: {triple:?} over {facts:?}");
+            assert_eq!(f, by_subsets(&Faithful, &facts, triple), "by subsets: {triple:?} over {facts:?}");
+            let by_itself = |fact| by_cost(&Faithful, &facts, fact);
+            assert_eq!(f, filled_with_more(&facts, triple).into_iter().filter_map(by_itself).min(), "{triple:?} over {facts:?}");
+            if n % 20 == 0 {
+                let each = fillings(&facts, triple).into_iter().filter_map(|fact| by_ways(&facts, fact));
+                assert_eq!(f, each.min(), "by ways: {triple:?} over {facts:?}");
+            }
+            counts[f.unwrap_or(0)] += 1;
+        }
+    }
+    println!("questions with a gap over small tables by f (0: no): {counts:?}");
+    assert!(counts[..5].iter().all(|&n| n > 20), "{counts:?}");
+}
+
+#[test]
+fn with_a_gap_the_uniform_cost_and_every_filling_agree_on_larger_tables() {
+    for (facts, triples) in questions(6, 300, 40) {
+        for triple in with_gaps(triples) {
+            assert_eq!(count_found(&facts, triple), by_cost(&Faithful, &facts, triple), "{triple:?} over {facts:?}");
+        }
+    }
+}
+
+#[test]
+fn with_a_gap_the_derivation_is_the_one_of_least_rank_among_all_shortest_ones_of_all_fillings() {
+    let random = questions(7, 6000, 10).map(|(facts, triples)| (facts, with_gaps(triples).collect::<Vec<Fact>>()));
+    let nets = choices().step_by(23).map(|(facts, triple)| (facts, with_gaps(vec![triple]).collect()));
+    let (mut ties, mut both_ways) = (0, 0);
+    for (facts, triples) in random.chain(nets) {
+        for triple in triples {
+            let f = by_cost(&Faithful, &facts, triple);
+            let all_of = |fact| all_shortest(&facts, fact, f.unwrap_or(1)).into_iter().map(move |used| (fact, used));
+            let all: Vec<_> = fillings(&facts, triple).into_iter().flat_map(all_of).collect();
+            let of = |way: u32| all.iter().any(|(_, used)| triple[1] == TYPE && used.iter().any(|fact| fact[1] == way));
+            both_ways += usize::from(of(DOM) && of(RANGE));
+            ties += usize::from(least_fillings(&facts, triple).len() > 1);
+            let least = all.into_iter().min_by_key(|(_, used)| rank(&facts, used));
+            assert_eq!(Faithful.found(&facts, triple), least, "{triple:?} over {facts:?}");
+        }
+    }
+    println!("questions with a gap over small tables with several least fillings: {ties}, by domain and by range: {both_ways}");
+    assert!(ties > 1000 && both_ways > 100, "{ties} {both_ways}");
+}
+
+const EVERY_CLASS: [u32; 17] = [0, 1, 2, 3, 4, 5, 6, 7, 39999, 40000, 40001, 59999, 60000, 60001, 65535, 65536, u32::MAX];
+
+/// Refusal 3 for a number that is no term; else 4 for a blank predicate or two blanks; else 5 where nothing fills the gap, or
+/// where without one the triple is not well-formed.
+#[test]
+fn a_question_is_refused_as_document_02_says() {
+    let any = |test: fn(u32) -> bool, triple: Fact| triple.into_iter().filter(|&t| test(t)).count();
+    for triple in EVERY_CLASS.into_iter().flat_map(|s| EVERY_CLASS.into_iter().flat_map(move |p| EVERY_CLASS.map(|o| [s, p, o]))) {
+        let askable = EVERY_CLASS.into_iter().any(|term| fills(triple, filled(triple, term)));
+        let expected = match triple {
+            _ if any(|t| t == 0 || t > 65535, triple) > 0 => Some(3),
+            [_, p, _] if is_blank(p) || any(is_blank, triple) > 1 => Some(4),
+            _ => (!askable).then_some(5),
+        };
+        assert_eq!(Faithful.question_fault(triple), expected, "{triple:?}");
+        let [s, p, o] = triple;
+        let direct = if is_blank(s) { well_formed([6, p, o]) } else { well_formed([s, p, if is_blank(o) { 6 } else { o }]) };
+        assert_eq!(expected.is_none(), direct, "{triple:?}");
+    }
+}
+
 #[test]
 fn a_fact_has_no_fault_exactly_when_it_is_well_formed() {
-    let terms = [0, 1, 2, 3, 4, 5, 6, 7, 39999, 40000, 40001, 59999, 60000, 60001, 65535, 65536, u32::MAX];
-    for s in terms {
-        for p in terms {
-            for o in terms {
+    for s in EVERY_CLASS {
+        for p in EVERY_CLASS {
+            for o in EVERY_CLASS {
                 assert_eq!(Faithful.fault([s, p, o]).is_none(), well_formed([s, p, o]), "{s} {p} {o}");
             }
         }
@@ -99,7 +187,7 @@ fn a_field_is_read_exactly_when_it_is_one_that_is_printed() {
 }
 
 #[test]
-fn document_01_has_its_own_cases() {
+fn it_has_the_papers_own_cases() {
     cases::run(&Faithful);
 }
 

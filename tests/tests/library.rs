@@ -1,31 +1,41 @@
 //! The static library and the program `factbox` against the independent implementation.
+use factbox_tests::calls::Calls;
 use factbox_tests::cases;
-use factbox_tests::chosen::several;
+use factbox_tests::chosen::{least_fillings, several};
 use factbox_tests::compare::{compare, Input};
+use factbox_tests::facts::{gap, is_blank};
+use factbox_tests::gaps::ties;
 use factbox_tests::generate::test_inputs;
 use factbox_tests::library::Library;
 use factbox_tests::parts::{Faithful, Parts};
 
 #[test]
-fn the_library_has_document_01s_own_cases() {
+fn the_library_has_the_papers_own_cases() {
     cases::run(&Library::from_environment());
 }
 
-/// The question is answered by one of several shortest derivations.
-fn has_choice(input: &Input) -> bool {
-    let Input::Question { table, triple, allowance, paper } = input else { return false };
-    let Ok(facts) = Faithful.sound(table, *triple, *allowance, *paper) else { return false };
-    Faithful.chosen(&facts, *triple).is_some_and(|used| Faithful.within(used.len(), *allowance)) && several(&facts, *triple)
+/// What a yes to a question shows: one of several shortest derivations, a gap, a gap with several fillings of least count.
+fn shows(input: &Input) -> [bool; 3] {
+    let Input::Question { table, triple, allowance, paper } = input else { return [false; 3] };
+    let Ok(facts) = Faithful.sound(table, *triple, *allowance, *paper) else { return [false; 3] };
+    // a large table may have a thousand fillings
+    let has_gap = gap(*triple).is_some() && facts.len() <= 100;
+    let least = if has_gap { least_fillings(&facts, *triple) } else { vec![] };
+    let used = if has_gap { least.first().map(|(_, used)| used.clone()) } else { Faithful.chosen(&facts, *triple) };
+    if !used.is_some_and(|used| Faithful.within(used.len(), *allowance)) {
+        return [false; 3];
+    }
+    [!has_gap && several(&facts, *triple), has_gap, least.len() > 1]
 }
 
 #[test]
-fn the_library_does_as_document_01_says() {
+fn the_library_does_as_the_papers_say() {
     let library = Library::from_environment();
     let mut counts = [0; 5];
-    let mut choices = 0;
+    let mut shown = [0; 3];
     for input in test_inputs() {
         compare(&library, &input).unwrap_or_else(|e| panic!("{e}\n{input}"));
-        choices += usize::from(has_choice(&input));
+        shown.iter_mut().zip(shows(&input)).for_each(|(n, shows)| *n += usize::from(shows));
         counts[match input {
             Input::Question { .. } => 0,
             Input::Check { .. } => 1,
@@ -35,10 +45,26 @@ fn the_library_does_as_document_01_says() {
         }] += 1;
     }
     let total: usize = counts.iter().sum();
-    println!(
-        "{total} inputs agree: question {}, check {}, read {}, write {}, program {}",
-        counts[0], counts[1], counts[2], counts[3], counts[4]
-    );
-    println!("{choices} of the questions have several shortest derivations");
-    assert!(total >= 200_000 && choices >= 5_000, "too few inputs: {total}, with several shortest derivations: {choices}");
+    let ([question, check, read, write, program], [choices, gaps, ties]) = (counts, shown);
+    println!("{total} inputs agree: question {question}, check {check}, read {read}, write {write}, program {program}");
+    println!("{choices} yes to one of several shortest derivations, {gaps} to a gap, {ties} of them to one of several least fillings");
+    assert!(total >= 200_000 && choices >= 5_000 && gaps >= 20_000 && ties >= 5_000, "too few inputs: {total}, {choices}, {gaps}, {ties}");
+}
+
+/// Every blank asks the same: answer and output are those of the first, whichever derivation is printed.
+#[test]
+fn which_blank_stands_in_the_gap_does_not_matter() {
+    let library = Library::from_environment();
+    let asked = |input: &Input, blank: u32| {
+        let Input::Question { table, triple, allowance, paper } = input else { unreachable!("questions alone") };
+        let mut output = vec![7; *paper];
+        let triple = triple.map(|term| if is_blank(term) { blank } else { term });
+        (library.factbox_question(table, triple, *allowance, &mut output), output)
+    };
+    for input in ties() {
+        let first = asked(&input, 60000);
+        for blank in [60001, 62767, 65534, 65535] {
+            assert!(asked(&input, blank) == first, "{blank} and 60000 differ\n{input}");
+        }
+    }
 }

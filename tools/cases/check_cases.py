@@ -271,6 +271,24 @@ for put, number in (
 # Also before a false step and before the wrong end.
 case(T, (5, 1, 10), EXAMPLE, 5, 0, 0)
 case(T, (10, 5, 60000), NINE, 4, 0, 0)
+# A gap is for questions: the check takes the filled triple, and any blank gets 4, though the derivation fills it (document 02,
+# Point 1).
+case(T, PUT, EXAMPLE, 93, 0, 4)
+for put in ((60000, 5, 12), (10, 5, 60000), (65535, 5, 12), (10, 5, 65535), (61234, 5, 12), (10, 60000, 12), (60000, 5, 60000),
+            (60000, 5, 65535), (60000, 60000, 12), (60000, 60000, 60000)):
+    case(T, put, EXAMPLE, 4, 0, 0)
+case([(6, 7, 8), (7, 4, 9)], (8, 5, 9), [given(6, 7, 8), given(7, 4, 9), (6, 2, 1, 8, 5, 9)], 93, 0, 2)
+case([(6, 7, 8), (7, 4, 9)], (60000, 5, 9), [given(6, 7, 8), given(7, 4, 9), (6, 2, 1, 8, 5, 9)], 4, 0, 0)
+# 3 before it; 5 behind it, whatever the gap.
+for put, number in (((60000, 0, 12), 3), ((0, 60000, 7), 3), ((10, 65536, 60000), 3), ((60000, 40000, 7), 4), ((3, 7, 60000), 4)):
+    case(T, put, EXAMPLE, number, 0, 0)
+# The derivation has the blank too: still 4 for the triple put, and 10 where the triple put is the filled one.
+for blank in (60000, 65535):
+    case(T, (blank, 5, 12), but(EXAMPLE, 7, (4, 6, 5, blank, 5, 12)), 4, 0, 0)
+    case(T, PUT, but(EXAMPLE, 7, (4, 6, 5, blank, 5, 12)), 10, 7, 0)
+    case(T, PUT, but(EXAMPLE, 5, (5, 4, 3, 10, 5, blank)), 10, 5, 0)
+    case(T, PUT, but(EXAMPLE, 2, given(10, 13, blank)), 10, 2, 0)
+    case(T, PUT, but(EXAMPLE, 6, given(11, blank, 12)), 10, 6, 0)
 # The last and first of each kind that pass: then it is the derivation's turn.
 for put in ((6, 39999, 59999), (39999, 6, 40000), (40000, 5, 6), (59999, 1, 39999)):
     case(T, put, b"", 9, 0, 0)

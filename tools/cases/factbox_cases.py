@@ -1,10 +1,11 @@
 #!/usr/bin/env python3
-"""Writes crates/factbox_cases/stdin and stdout: whole inputs of the program, each with the output that document 01 gives it.
+"""Writes crates/factbox_cases/stdin and stdout: whole inputs of the program, each with the output that document 01 gives it, and
+document 02 where a question has a gap.
 
 The outputs are written by hand, as numbers; no implementation computes them. Only the derivations of long chains are put together
 here, line by line in document 01's order, from facts that are listed in that order. Where several shortest derivations exist, the
 one is expected whose last fact on the path stands earliest in the table, then whose last but one, and so on back; a way by domain
-comes before a way by range.
+comes before a way by range. With a gap this is said of the shortest derivations of all fillings together.
 
 Run from anywhere: tools/cases/factbox_cases.py
 """
@@ -155,9 +156,9 @@ asked(
     ("10 13 20 0", "92 0 1"), ("10 13 20 1", "90 0 1; 0 0 0 10 13 20"),
 )
 asked(
-    "Run also, as questions", T,
+    "Run also, as questions: object 60000 is a gap", T,
     ("10 39999 20 4", "91 0 0"), ("10 40000 20 4", "5 0 0"),
-    ("10 13 59999 4", "91 0 0"), ("10 13 60000 4", "4 0 0"), ("10 13 65536 4", "3 0 0"),
+    ("10 13 59999 4", "91 0 0"), ("10 13 60000 4", "90 0 1; 0 0 0 10 13 20"), ("10 13 65536 4", "3 0 0"),
 )
 for line, reply in (
     ("10 39999 20", "90 0 1; 0 0 0 10 39999 20"), ("10 40000 20", "5 1 0"),
@@ -167,10 +168,117 @@ for line, reply in (
 asked(
     "3, 4, 5, 7 in this order, over the whole triple", T,
     ("0 0 0 0", "3 0 0"), ("10 1 0 4", "3 0 0"), ("65536 1 10 4", "3 0 0"), ("10 99999 10 4", "3 0 0"),
-    ("60000 0 10 4", "3 0 0"), ("60000 5 40000 4", "4 0 0"), ("10 60000 20 4", "4 0 0"), ("10 65535 20 4", "4 0 0"),
-    ("5 1 60000 4", "4 0 0"), ("1 1 10 4", "5 0 0"), ("10 1 5 4", "5 0 0"), ("10 59999 20 4", "5 0 0"),
-    ("0 1 10 1025", "3 0 0"), ("60000 1 10 1025", "4 0 0"), ("5 1 10 1025", "5 0 0"), ("10 1 11 1025", "7 0 0"),
+    ("60000 0 10 4", "3 0 0"), ("60000 5 60000 4", "4 0 0"), ("10 60000 20 4", "4 0 0"), ("10 65535 20 4", "4 0 0"),
+    ("5 60000 10 4", "4 0 0"), ("1 1 10 4", "5 0 0"), ("10 1 5 4", "5 0 0"), ("10 59999 20 4", "5 0 0"),
+    ("0 1 10 1025", "3 0 0"), ("10 60000 10 1025", "4 0 0"), ("5 1 10 1025", "5 0 0"), ("10 1 11 1025", "7 0 0"),
 )
+
+# ---- gaps: one blank as subject or object (document 02, Point 1)
+
+T_TWO = "90 0 2; 0 0 0 13 2 14; 0 0 0 10 13 20; 2 1 2 10 14 20"
+T_THREE = "90 0 3; 0 0 0 13 2 14; 0 0 0 10 13 20; 2 1 2 10 14 20; 0 0 0 14 3 11; 5 4 3 10 5 11"
+asked(
+    "gaps put to T: the derivation ends in the filled triple", T,
+    ("60000 5 12 4", T_LONG), ("60000 5 12 1024", T_LONG), ("60000 5 12 3", "92 0 4"), ("60000 5 12 0", "92 0 4"),
+    ("10 5 60000 4", T_THREE), ("10 5 60000 3", T_THREE), ("10 5 60000 2", "92 0 3"),
+    ("60000 14 20 2", T_TWO), ("10 14 60000 2", T_TWO), ("10 14 60000 1", "92 0 2"), ("60000 14 20 0", "92 0 2"),
+    ("60000 13 20 1", "90 0 1; 0 0 0 10 13 20"), ("10 13 60000 0", "92 0 1"),
+    ("60000 1 12 4", "90 0 1; 0 0 0 11 1 12"), ("11 1 60000 4", "90 0 1; 0 0 0 11 1 12"),
+    ("60000 2 14 4", "90 0 1; 0 0 0 13 2 14"), ("13 2 60000 4", "90 0 1; 0 0 0 13 2 14"),
+    ("60000 3 11 4", "90 0 1; 0 0 0 14 3 11"), ("14 3 60000 4", "90 0 1; 0 0 0 14 3 11"),
+)
+asked(
+    "gaps that nothing fills, put to T", T,
+    ("60000 1 11 4", "91 0 0"), ("12 1 60000 4", "91 0 0"), ("60000 2 13 0", "91 0 0"), ("13 3 60000 4", "91 0 0"),
+    ("60000 4 11 4", "91 0 0"), ("14 4 60000 1024", "91 0 0"), ("20 5 60000 4", "91 0 0"), ("60000 5 20 4", "91 0 0"),
+    ("60000 13 10 4", "91 0 0"), ("20 13 60000 4", "91 0 0"), ("60000 5 40000 4", "91 0 0"),
+)
+asked("gaps over the empty table", "", ("60000 1 11 4", "91 0 0"), ("10 7 60000 0", "91 0 0"), ("10 5 65535 1024", "91 0 0"))
+asked(
+    "the blank's number has no meaning; 59999 and 65536 are no gaps", T,
+    ("65535 5 12 4", T_LONG), ("61234 5 12 4", T_LONG), ("10 14 65535 4", T_TWO), ("10 14 60001 4", T_TWO),
+    ("59999 5 12 4", "91 0 0"), ("65536 5 12 4", "3 0 0"), ("10 14 59999 4", "91 0 0"), ("10 14 65536 4", "3 0 0"),
+)
+asked(
+    "4 for two blanks, equal or not, and for a blank predicate", T,
+    ("60000 5 60000 4", "4 0 0"), ("60000 5 65535 4", "4 0 0"), ("65535 13 65535 4", "4 0 0"), ("10 60000 20 4", "4 0 0"),
+    ("60000 60000 20 4", "4 0 0"), ("10 60000 60000 4", "4 0 0"), ("60000 60000 60000 4", "4 0 0"),
+)
+asked(
+    "3, 4, 5, 7 with blanks: 5 on the other terms", T,
+    ("0 60000 7 4", "3 0 0"), ("0 7 60000 4", "3 0 0"), ("60000 7 65536 4", "3 0 0"), ("60000 0 60000 4", "3 0 0"),
+    ("5 60000 60000 4", "4 0 0"), ("60000 40000 60000 4", "4 0 0"),
+    ("60000 40000 7 4", "5 0 0"), ("7 59999 60000 4", "5 0 0"), ("3 7 60000 4", "5 0 0"), ("60000 7 5 4", "5 0 0"),
+    ("60000 7 5 1025", "5 0 0"), ("60000 5 60000 1025", "4 0 0"), ("60000 5 12 1025", "7 0 0"), ("10 5 65535 99999", "7 0 0"),
+)
+asked(
+    "a cycle: the class itself needs two facts, the other one", "10 1 11; 11 1 10",
+    ("60000 1 10 4", "90 0 1; 0 0 0 11 1 10"), ("10 1 60000 4", "90 0 1; 0 0 0 10 1 11"),
+)
+asked(
+    "the class itself where the table has it", "10 1 10; 10 1 11",
+    ("60000 1 10 4", "90 0 1; 0 0 0 10 1 10"), ("60000 1 11 4", "90 0 1; 0 0 0 10 1 11"), ("11 1 60000 4", "91 0 0"),
+)
+asked("an sp cycle with a gap", "10 2 11; 11 2 10", ("60000 2 10 4", "90 0 1; 0 0 0 11 2 10"), ("11 2 60000 4", "90 0 1; 0 0 0 11 2 10"))
+asked(
+    "the triple's other end fills the gap", "10 5 11; 11 1 10",
+    ("60000 5 10 4", "90 0 2; 0 0 0 10 5 11; 0 0 0 11 1 10; 4 2 1 10 5 10"), ("10 5 60000 4", "90 0 1; 0 0 0 10 5 11"),
+)
+asked(
+    "range: the object fills the gap", "6 7 8; 7 4 9",
+    ("60000 5 9 4", "90 0 2; 0 0 0 6 7 8; 0 0 0 7 4 9; 6 2 1 8 5 9"), ("8 5 60000 4", "90 0 2; 0 0 0 6 7 8; 0 0 0 7 4 9; 6 2 1 8 5 9"),
+    ("6 5 60000 4", "91 0 0"),
+)
+asked(
+    "domain: the subject fills the gap", "6 7 8; 7 3 9",
+    ("60000 5 9 4", "90 0 2; 0 0 0 6 7 8; 0 0 0 7 3 9; 5 2 1 6 5 9"), ("6 5 60000 4", "90 0 2; 0 0 0 6 7 8; 0 0 0 7 3 9; 5 2 1 6 5 9"),
+    ("8 5 60000 4", "91 0 0"),
+)
+asked(
+    "the smallest count, not the first that fits", "6 5 10; 7 5 11; 10 1 11",
+    ("60000 5 11 4", "90 0 1; 0 0 0 7 5 11"), ("60000 5 11 0", "92 0 1"), ("6 5 60000 4", "90 0 1; 0 0 0 6 5 10"),
+)
+asked(
+    "the smallest count with a gap at the object", "6 8 9; 6 10 11; 8 2 10",
+    ("6 10 60000 4", "90 0 1; 0 0 0 6 10 11"), ("60000 10 9 4", "90 0 2; 0 0 0 8 2 10; 0 0 0 6 8 9; 2 1 2 6 10 9"),
+)
+asked(
+    "literals fill gaps", "6 7 40000; 7 4 59999",
+    ("60000 5 59999 4", "90 0 2; 0 0 0 6 7 40000; 0 0 0 7 4 59999; 6 2 1 40000 5 59999"),
+    ("40000 5 60000 4", "90 0 2; 0 0 0 6 7 40000; 0 0 0 7 4 59999; 6 2 1 40000 5 59999"),
+    ("6 7 60000 4", "90 0 1; 0 0 0 6 7 40000"), ("60000 7 40000 4", "90 0 1; 0 0 0 6 7 40000"),
+)
+asked(
+    "h with a gap", "6 7 8; 7 2 40000; 40000 2 9",
+    ("6 9 60000 4", "90 0 3; 0 0 0 7 2 40000; 0 0 0 40000 2 9; 1 1 2 7 2 9; 0 0 0 6 7 8; 2 3 4 6 9 8"),
+    ("60000 9 8 3", "90 0 3; 0 0 0 7 2 40000; 0 0 0 40000 2 9; 1 1 2 7 2 9; 0 0 0 6 7 8; 2 3 4 6 9 8"),
+    ("60000 2 9 4", "90 0 1; 0 0 0 40000 2 9"), ("7 2 60000 4", "90 0 1; 0 0 0 7 2 40000"), ("6 40000 60000 4", "5 0 0"),
+)
+asked("i with a gap", "6 7 8; 7 2 40000; 40000 3 9", ("60000 5 9 4", "91 0 0"), ("6 5 60000 4", "91 0 0"), ("60000 3 9 4", "90 0 1; 0 0 0 40000 3 9"))
+asked(
+    "of two fillings the one whose last fact stands earliest", "6 9 7; 7 8 6; 8 3 30; 9 3 30",
+    ("60000 5 30 4", "90 0 2; 0 0 0 7 8 6; 0 0 0 8 3 30; 5 2 1 7 5 30"),
+)
+asked(
+    "one last fact: the fact before it that stands earliest", "6 7 8; 7 3 11; 9 7 10",
+    ("60000 5 11 4", "90 0 2; 0 0 0 6 7 8; 0 0 0 7 3 11; 5 2 1 6 5 11"),
+)
+asked(
+    "a filling by domain before one by range, whose last fact stands earlier", "6 7 8; 6 9 8; 7 4 10; 9 3 10",
+    ("60000 5 10 4", "90 0 2; 0 0 0 6 9 8; 0 0 0 9 3 10; 5 2 1 6 5 10"),
+)
+asked(
+    "a class by domain before one by range", "6 7 8; 7 4 13; 8 10 6; 8 11 6; 10 4 12; 11 3 9",
+    ("8 5 60000 4", "90 0 2; 0 0 0 8 11 6; 0 0 0 11 3 9; 5 2 1 8 5 9"), ("6 5 60000 4", "90 0 2; 0 0 0 8 10 6; 0 0 0 10 4 12; 6 2 1 6 5 12"),
+)
+asked(
+    "a filling by range, which is shorter", "6 7 8; 7 2 9; 7 4 10; 9 3 10",
+    ("60000 5 10 4", "90 0 2; 0 0 0 6 7 8; 0 0 0 7 4 10; 6 2 1 8 5 10"),
+    ("6 5 60000 4", "90 0 3; 0 0 0 7 2 9; 0 0 0 6 7 8; 2 1 2 6 9 8; 0 0 0 9 3 10; 5 4 3 6 5 10"),
+)
+asked("a type that the table has, before a class by domain", "6 5 10; 6 5 11; 6 7 8; 7 3 9", ("6 5 60000 4", "90 0 1; 0 0 0 6 5 10"))
+asked("the table's refusal before the gap", "10 1 11; 10 1 11", ("60000 1 11 4", "6 2 0"), ("60000 1 60000 4", "6 2 0"))
+asked("a blank in the table gets 4, and is no gap", "10 13 20; 65535 5 11", ("60000 5 11 4", "4 2 0"), ("10 13 60000 4", "4 2 0"))
 
 # ---- tables that are refused
 
@@ -243,7 +351,7 @@ def derivation(facts):
 
 
 def needs_all(shows, facts, fact):
-    """Facts in printed order, and the fact that follows from them all, put with allowances 1,024, 1,023 and 0."""
+    """Facts in printed order, and the fact that follows from them all, or has a gap, put with allowances 1,024, 1,023 and 0."""
     table = b"".join(b"%5d%5d%5d\n" % f for f in sorted(facts))
     ask = "; ".join("%d %d %d %d" % (*fact, limit) for limit in (1024, 1023, 0))
     assert len(facts) == 1024
@@ -261,10 +369,9 @@ needs_all(
     "510 sp facts, a data fact, a dom fact and 512 sc facts",
     chain(2, PROPERTIES) + [(8, PROPERTIES[0], 9), (PROPERTIES[-1], 3, 7)] + chain(1, [7, *CLASSES]), (8, 5, CLASSES[-1]),
 )
-needs_all(
-    "the same by range, the classes taken backwards",
-    chain(2, PROPERTIES) + [(8, PROPERTIES[0], 9), (PROPERTIES[-1], 4, 7)] + chain(1, [7, *reversed(CLASSES)]), (9, 5, CLASSES[0]),
-)
+BY_RANGE = chain(2, PROPERTIES) + [(8, PROPERTIES[0], 9), (PROPERTIES[-1], 4, 7)] + chain(1, [7, *reversed(CLASSES)])
+needs_all("the same by range, the classes taken backwards", BY_RANGE, (9, 5, CLASSES[0]))
+needs_all("the same with a gap, which 9 fills", BY_RANGE, (65535, 5, CLASSES[0]))
 
 (CRATE / "stdin").write_bytes(b"".join(stdin))
 (CRATE / "stdout").write_bytes(b"".join(stdout))
