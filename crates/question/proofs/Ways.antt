@@ -1,5 +1,5 @@
--- Where paths begin: but by range, and where the subject of t is no gap, in facts with that subject; and where it stands for the
--- object of no data fact, a path by range is a path by dom.
+-- Where paths begin: but by range, and where the subject of t is no gap, in facts with that subject; and where no data fact has
+-- it as its object, a path by range is a path by dom.
 -- Assumes nothing.
 use mathlib.Core.Path.{_≡_, refl, sym, ap, _∙_, subst}
 use mathlib.Core.Logic.{⊎-elim}
@@ -9,7 +9,7 @@ use mathlib.Core.List.{List}
 use Prim.Native.Nat.{ℕ, _+_, _≤_, _<_}
 use native.Mathlib.Omega.{arith}
 use lib.Dec.{T, eqb}
-use mir.Facts.{and-yes, yes-and, eqb-yes}
+use mir.Facts.{and-yes, yes-and, eqb-yes, yes-eqb}
 use borrow.Author.Tests.{eqb-false, ne-eqb}
 use Rattle.facts.specs.declared.Fact.{Fact}
 use Rattle.facts.specs.Terms.{kindOf, sc, type}
@@ -81,7 +81,7 @@ next-classing v a b c h =
     ⊎-elim (λ (x : T (goesOn v a) × (b .predicate ≡ chain (property a))). classing b sc refl refl (x .1 ∙ ap chain (c .class)))
     (λ (x : (property a ≡ true) × (b .predicate ≡ v) × (named (b .subject) ≡ true)). absurd (true≢false (sym (x .0) ∙ c .class))) (next-says v a b h .1)
 
-module _ (row : List ℕ) (n : ℕ) (t : Fact) (asks : t .predicate ≡ 5) (out : n ≤ placeOr n (least (into row (t .subject)) 0 n)) where
+module _ (row : List ℕ) (n : ℕ) (t : Fact) (asks : t .predicate ≡ 5) (gap : isGap (t .subject) ≡ false) (out : n ≤ placeOr n (least (into row (t .subject)) 0 n)) where
   -- no fact is into the subject
   into-none : (i : ℕ) → i < n → T (into row (t .subject) i) → ⊥
   into-none i h x = go (least (into row (t .subject)) 0 n) refl (least-answer (into row (t .subject)) 0 n)
@@ -96,8 +96,8 @@ module _ (row : List ℕ) (n : ℕ) (t : Fact) (asks : t .predicate ≡ 5) (out 
   start-plain {a} m s =
       by-cases (named (a .predicate))
       (λ d. let p = place-of row n m in
-      absurd (into-none (p .0) (p .1) (subst (λ (f : Fact). T (named (f .predicate) && fits (t .subject) (f .object))) (sym (p .2))
-      (yes-and (named (a .predicate)) (fits (t .subject) (a .object)) (T-of _ d) (rw (d, asks) at s))))) (λ d. d)
+      absurd (into-none (p .0) (p .1) (subst (λ (f : Fact). T (named (f .predicate) && eqb (f .object) (t .subject))) (sym (p .2))
+      (yes-and (named (a .predicate)) (eqb (a .object) (t .subject)) (T-of _ d) (yes-eqb (fits-says (t .subject) (a .object) (rw (d, asks) at s) gap)))))) (λ d. d)
 
   path-each : {a : Fact} {k : ℕ} → Path (startFor 4 t) (next 4) (factsOf row n) a k → Path (startFor 3 t) (next 3) (factsOf row n) a k × Classing a
   unfolding startFor property kindOf onlyTable

@@ -2,6 +2,7 @@
 -- Assumes nothing.
 use mathlib.Core.Path.{_≡_, refl, sym, subst}
 use mathlib.Core.Logic.{_⊎_, inl, inr, ⊎-elim}
+use mathlib.Core.Bool.{false}
 use mathlib.Core.Option.{none, some}
 use mathlib.Core.List.{List, [], _∷_, List·Memᴰ·head, List·Memᴰ·tail, List·Memᴰ·not-nil, List·Memᴰ·cases-cons}
 use Prim.Native.Nat.{ℕ, zero, suc, _≤_, _<_}
@@ -27,6 +28,7 @@ use Rattle.question.specs.declared.Found.the-variants.{Nothing, Facts}
 use Rattle.table.specs.Tables.{rowFact}
 use Rattle.question.specs.Row.{factsOf, Rising, Sorted, subjectAt}
 use Rattle.facts.specs.Facts.{before}
+use Rattle.facts.specs.Gaps.{isGap}
 use Rattle.facts.proofs.Facts.{Before, by-subject, by-predicate, by-object, before-iff}
 use Rattle.question.specs.State.{Met, Nowhere, Left}
 use Rattle.columns.specs.Lines.{over}
@@ -143,11 +145,12 @@ module _ (row : List ℕ) (n : ℕ) (t : Fact) where
       (λ y. way-dom (factsOf row n) t f on (y .path) (y .ends))
 
   -- or where no data fact is into the subject
-  pub answers-alone : (f : ℕ) (s : State) (places after : List ℕ) (r : Found) → t .predicate ≡ 5 → n ≤ placeOr n (least (into row (t .subject)) 0 n) → Left row n 3 t f s
+  pub answers-alone : (f : ℕ) (s : State) (places after : List ℕ) (r : Found) → t .predicate ≡ 5 → isGap (t .subject) ≡ false → n ≤ placeOr n (least (into row (t .subject)) 0 n)
+      → Left row n 3 t f s
       → FindsBy row n 3 t f places after r → Finds row n t places after r
-  answers-alone f s places after r h out l =
-      answers-dom f s places after r h l (λ e a m p. bound-none 3 f s l e a m (range-dom row n t h out p))
-      (λ p a m q. bound-of 3 f s l f (omega arith) p a m (range-dom row n t h out q))
+  answers-alone f s places after r h gap out l =
+      answers-dom f s places after r h l (λ e a m p. bound-none 3 f s l e a m (range-dom row n t h gap out p))
+      (λ p a m q. bound-of 3 f s l f (omega arith) p a m (range-dom row n t h gap out q))
 
   -- one search, and its path read back
   left-some : (w f : ℕ) (s : State) → (f ≡ 0 → ⊥) → Left row n w t f s → Met row n w t f s

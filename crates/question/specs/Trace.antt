@@ -10,7 +10,7 @@ use lib.ListN.{getD}
 use lib.Dec.{T, eqb, ltb}
 use Rattle.facts.specs.declared.Fact.{Fact}
 use Rattle.rules.specs.Graph.{least}
-use Rattle.rules.specs.Paths.{named, next, fits, startFor, goalFor}
+use Rattle.rules.specs.Paths.{named, startFor, next, goalFor}
 use Rattle.question.specs.declared.State.{State}
 use Rattle.table.specs.Tables.{rowFact}
 use Rattle.question.specs.Row.{Rising}
@@ -25,11 +25,11 @@ placeOr n (some i) = i
 abbrev pub single : List ℕ → ℕ → Fact → ℕ → Bool
 single row w t j = goalFor t (rowFact row j) && startFor w t (rowFact row j)
 
--- the fact at j is a data fact for whose object the term x of a question stands
+-- the fact at j is a data fact with the object x
 abbrev pub into : List ℕ → ℕ → ℕ → Bool
-into row x j = named (rowFact row j .predicate) && fits x (rowFact row j .object)
+into row x j = named (rowFact row j .predicate) && eqb (rowFact row j .object) x
 
--- what is looked for at j: where `leads`, a data fact for whose object the subject of t stands, and else a path for t by itself
+-- what is looked for at j: where `leads`, a data fact with the subject of t as its object, and else a path for t by itself
 abbrev pub sought : List ℕ → Bool → ℕ → Fact → ℕ → Bool
 sought row leads w t j = cond leads (into row (t .subject) j) (single row w t j)
 

@@ -4,7 +4,6 @@ use question::Part;
 use question::State;
 use question::Step;
 use search_links::ends;
-use search_links::fits;
 use search_links::follows;
 use search_links::starts;
 use search_parts::NOTES;
@@ -59,14 +58,14 @@ fn before(
     Step { at: at, top: 0 }
 }
 
-// Where `leads`, the fact at a place is a data fact for whose object the subject of t stands; else it is a path for t by itself.
+// Where `leads`, the fact at a place is a data fact with the subject of t as its object; else it is a path for t by itself.
 fn is_sought(row: &[u32], leads: bool, w: u32, t: Fact, j: usize) -> bool
     requires { ⌜ 3 * j + 3 ≤ length (now row) ⌝ }
     ensures { λ r. ⌜ r ≡ sought (now (row .entry)) leads w t j ⌝ }
 {
     let b = row_fact(row, j);
     if leads {
-        return is_name(b.predicate) & fits(t.subject, b.object);
+        return is_name(b.predicate) & (b.object == t.subject);
     }
     ends(t, b) & starts(w, t, b)
 }

@@ -9,6 +9,7 @@ use question::Reached;
 use search_back::first_sought;
 use search_back::trace;
 use search_layers::reach;
+use terms::is_gap;
 ghost use mathlib.Core.Path.{_≡_};
 ghost use Prim.Native.Nat.{_+_, _≤_, _<_};
 ghost use lib.ListN.{length};
@@ -30,14 +31,17 @@ fn answer(row: &[u32], n: usize, w: u32, t: Fact, r: Reached, path: &mut [u16]) 
 }
 
 // For a type two searches: the way by range where it is strictly shorter, and else the way by dom. A way by range that is not
-// also one by dom begins with a data fact whose object is the subject, so without one the search by dom is enough.
+// also one by dom begins with a data fact whose object is the subject, so without one the search by dom is enough; a gap stands
+// for any object.
 fn by_type(row: &[u32], n: usize, t: Fact, path: &mut [u16]) -> Found
     requires { ⌜ Rising (now row) n × (n ≤ length (now path)) × (t .predicate ≡ 5) ⌝ }
     ensures { λ r. ⌜ Finds (now (row .entry)) n t (now (path .entry)) (now (path .exit)) r ⌝ }
 {
     let a = reach(row, n, DOM, t);
-    if n <= first_sought(row, n, true, RANGE, t) {
-        return answer(row, n, DOM, t, a, path);
+    if !is_gap(t.subject) {
+        if n <= first_sought(row, n, true, RANGE, t) {
+            return answer(row, n, DOM, t, a, path);
+        }
     }
     let b = reach(row, n, RANGE, t);
     let x = b.facts;

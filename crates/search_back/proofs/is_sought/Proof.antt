@@ -10,11 +10,8 @@ row-fact-requires c κs = search needs
 is-name-requires : tie.Need-is-name-requires
 is-name-requires c κs = search needs
 
-fits-requires : tie.Need-fits-requires
-fits-requires c κs = search needs
-
 returns : tie.Need-returns
-returns c = rw (c .before .before .if1 .taken, c .fits2 .ensures, c .before .is-name .ensures, c .before .before .before .row-fact .ensures)
+returns c = rw (c .before .before .before .if1 .taken, c .before .before .is-name .ensures, c .before .before .before .before .row-fact .ensures)
 
 ends-requires : tie.Need-ends-requires
 ends-requires c κs = search needs
@@ -28,11 +25,4 @@ returns-2 c = rw (c .before .before .if1 .left, c .starts .ensures, c .before .e
 pub is-sought-spec : {M : Type 1} → statement M
 is-sought-spec =
     tie.close
-    (tie.spec
-    row-fact-requires
-    is-name-requires
-    fits-requires
-    returns
-    ends-requires
-    starts-requires
-    returns-2)
+    (tie.spec row-fact-requires is-name-requires returns ends-requires starts-requires returns-2)
