@@ -86,7 +86,7 @@ enum {
     FACTBOX_END = 11,       /* the last line is not the triple put; place: the last line */
     FACTBOX_YES = 90,       /* the triple follows, from no more table facts than allowed; count: the fewest it follows from; filling: of its gap */
     FACTBOX_NO = 91,        /* the triple does not follow; with a gap, no filling follows; count: 0 */
-    FACTBOX_LONG = 92,      /* the triple follows, but needs more table facts than allowed; count: the fewest it follows from */
+    FACTBOX_LONG = 92,      /* the triple follows, but needs more table facts than allowed; with a gap, every filling does; count: the fewest */
     FACTBOX_ACCEPTED = 93   /* the derivation is accepted; count: its table lines */
 };
 
@@ -105,7 +105,7 @@ enum {
     FACTBOX_STACK_MAX = 65536           /* bytes: no call takes more */
 };
 
-/* Stack as measured on x86-64 (test_stack.c), in bytes, on full tables: factbox_question 35,272, factbox_check 12,856,
+/* Stack as measured on x86-64 (test_stack.c), in bytes, on full tables: factbox_question 35,288, factbox_check 12,856,
  * factbox_read 12,472, factbox_write 72. Where the dynamic linker looks up memcpy, memmove or memset at its first use, it
  * takes some 3,100 bytes on top of the call that needs it. */
 

@@ -124,6 +124,20 @@ fn with_a_gap_the_uniform_cost_and_every_filling_agree_on_larger_tables() {
 }
 
 #[test]
+fn with_every_term_there_is_tried_as_a_filling_the_count_is_the_same() {
+    let mut follows = 0;
+    for (facts, triples) in questions(19, 8, 3) {
+        for triple in with_gaps(triples).take(3) {
+            let f = count_found(&facts, triple);
+            let every = (6..60_000).filter_map(|term| by_cost(&Faithful, &facts, filled(triple, term))).min();
+            assert_eq!(f, every, "{triple:?} over {facts:?}");
+            follows += usize::from(f.is_some());
+        }
+    }
+    assert!(follows > 5, "{follows}");
+}
+
+#[test]
 fn with_a_gap_the_derivation_is_the_one_of_least_rank_among_all_shortest_ones_of_all_fillings() {
     let random = questions(7, 6000, 10).map(|(facts, triples)| (facts, with_gaps(triples).collect::<Vec<Fact>>()));
     let nets = choices().step_by(23).map(|(facts, triple)| (facts, with_gaps(vec![triple]).collect()));

@@ -21,7 +21,7 @@ use Rattle.facts.specs.declared.Verdict.the-variants.{Sound, Faulty}
 use Rattle.facts.specs.declared.Answer.{Answer}
 use Rattle.facts.specs.declared.Answer.the-variants.{Refused}
 use Rattle.facts.specs.Facts.{hasNoTerm, misplaced, orElse}
-use Rattle.facts.specs.Gaps.{overBlank, questionFault}
+use Rattle.facts.specs.Gaps.{blankRefused, questionFault}
 use Rattle.facts.specs.Answers.{codeOf, numberOf}
 use Rattle.facts.proofs.Terms.{by-cases}
 use Rattle.table.specs.Scans.{earns}
@@ -71,7 +71,7 @@ fault-number : (t : Fact) (r : Refusal) → questionFault t ≡ Faulty r → num
 unfolding questionFault
 fault-number t r e =
     by-cases (hasNoTerm t) (λ a. said Term (rw a at e) (omega arith))
-    (λ a. by-cases (overBlank t) (λ b. said Blank (rw (a, b) at e) (omega arith))
+    (λ a. by-cases (blankRefused t) (λ b. said Blank (rw (a, b) at e) (omega arith))
     (λ b. by-cases (misplaced t) (λ c. said Part (rw (a, b, c) at e) (omega arith))
     (λ c. let x : Sound ≡ Faulty r = rw (a, b, c) at e in let z : _≡_ {A = ℕ} 0 1 = cc in absurd (omega arith))))
   where

@@ -6,7 +6,7 @@ use Rattle.columns.specs.Fields.{column, field, numberAt, hasField, isField}
 use Rattle.columns.specs.Lines.{fields, line, laidOut, flat, itemsFrom}
 use Rattle.facts.specs.Terms.{kindOf}
 use Rattle.facts.specs.Facts.{hasNoTerm, hasBlank, misplaced, faultOf, before, orElse}
-use Rattle.facts.specs.Gaps.{isGap, overBlank, questionFault, fillingOf}
+use Rattle.facts.specs.Gaps.{isGap, blankRefused, questionFault, fillingOf}
 use Rattle.table.specs.Scans.{above, earns, firstEarned, onward, scan}
 use Rattle.table.specs.Tables.{lineFact, sized, meant, lineVerdict, tableScan, tableOf}
 use Rattle.rules.specs.Graph.{keep, any, layer, least}
@@ -18,6 +18,6 @@ use Rattle.demands.specs.Cases.{cases, answer}
 pub twelve : map answer cases ≡ map (λ c. c .gives) cases
 unfolding column field numberAt hasField isField fields line laidOut flat itemsFrom kindOf hasNoTerm hasBlank misplaced faultOf
     before above earns firstEarned onward scan orElse lineFact sized meant lineVerdict tableScan tableOf keep any layer least link
-    property chain onlyTable goesOn next typed ways fits startFor goalFor reaches fewest isGap overBlank questionFault fillingOf fillingFor asked answerBy answerOf unless
+    property chain onlyTable goesOn next typed ways fits startFor goalFor reaches fewest isGap blankRefused questionFault fillingOf fillingFor asked answerBy answerOf unless
     answerFrom questionAnswer cases answer
 twelve = refl

@@ -17,7 +17,7 @@ use Rattle.facts.specs.declared.Answer.{Answer}
 use Rattle.facts.specs.declared.Answer.the-variants.{Done, Yes, No, Long, Accepted, Refused}
 use Rattle.facts.specs.declared.Code.{Code}
 use Rattle.facts.specs.Facts.{wellFormed}
-use Rattle.facts.specs.Gaps.{Fills}
+use Rattle.facts.specs.Gaps.{Fills, AsksSame}
 use Rattle.facts.specs.Answers.{codeOf, YesWith, LongWith, SaysFollows, SaysNo, AcceptedWith, DoneWith, RefusedWith}
 use Rattle.facts.proofs.Terms.{by-cases}
 use Rattle.facts.proofs.Codes.{told-yes, told-long, told-no, told-refused}
@@ -35,8 +35,9 @@ use Rattle.rules.proofs.Fewest.{fewest-least, fewest-none, fewest-refuted, leas
 use Rattle.acceptance.specs.Check.{DerivationOf}
 use Rattle.question.specs.Question.{printedFor, fillingFor, answerBy, answerOf, questionAnswer, written, outputAfter, Question, question, Meaning}
 use Rattle.question.proofs.Answered.{accepted-formed, yes-input, yes-fewest, long-fewest, no-fewest, gapless-filling, same-count}
+use Rattle.question.proofs.Alike.{answer-same, output-same}
 use Rattle.question.proofs.ByRules.{answers-by}
-use Rattle.entail.specs.Packed.{unpacked}
+use Rattle.entail.specs.Packed.{packed, unpacked}
 use Rattle.entail.specs.Calls.{CheckCall, ReadCall, WriteCall}
 use Rattle.entail.proofs.Unpacked.{question-unpacked, check-unpacked, read-unpacked, write-unpacked, call-means, call-judges}
 use Rattle.batch.proofs.Whole.{replies-output}
@@ -277,6 +278,17 @@ demand-2 = record {
 
 -- ---- demand 3
 
+-- questions that ask the same
+same-asked : (p p′ : Put) → p′ .question .table ≡ p .question .table → p′ .question .limit ≡ p .question .limit → p′ .entry ≡ p .entry → AsksSame (p .question .fact) (p′ .question .fact)
+    → (p′ .result ≡ p .result) × (p′ .exit ≡ p .exit)
+same-asked p p′ b l e s =
+    let t = p .question .fact in
+    let v = p′ .question .fact in
+    let lent = length (p .entry) in (
+      p′ .call .answer ∙ rw (b, l, e) (ap (λ (a : Answer). packed (codeOf a)) (sym (answer-same t v s (p .question .table) (p .question .limit) lent))) ∙ sym (p .call .answer),
+      p′ .call .output ∙ rw (b, l, e) (sym (output-same t v s (p .question .table) (p .question .limit) (p .entry))) ∙ sym (p .call .output),
+    )
+
 pub demand-3 : Demand-3
 demand-3 = record {
   least = λ p facts s. means p facts s .least;
@@ -288,6 +300,7 @@ demand-3 = record {
       (answers-by facts (formed p facts s) (p .question .fact) (s .fact) (p .question .limit) n c);
   filling = λ p facts s. means p facts s .filling;
   unnamed = put-unnamed;
+  any-blank = same-asked;
   check-unnamed = λ {b} {t} {x} g. rw (check-unpacked g) (check-names b t x);
   read-unnamed = λ {b} {entry} g. rw (read-unpacked g) (settled-names rowOf (tableOf b) (length entry));
   facts-unnamed = λ {b} {entry} g. rw (g .answer) (records-names (tableOf b) (length entry));

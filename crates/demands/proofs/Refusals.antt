@@ -22,7 +22,7 @@ use Rattle.facts.specs.declared.Answer.{Answer}
 use Rattle.facts.specs.declared.Answer.the-variants.{Done, Yes, Long, Accepted, Refused}
 use Rattle.facts.specs.Facts.{wellFormed, hasNoTerm, hasBlank, misplaced, faultOf, orElse}
 use Rattle.facts.proofs.Terms.{by-cases, T-of, of-T}
-use Rattle.facts.specs.Gaps.{isGap, overBlank, questionFault}
+use Rattle.facts.specs.Gaps.{isGap, blankRefused, questionFault}
 use Rattle.facts.proofs.Facts.{fault-none}
 use Rattle.facts.proofs.Gaps.{question-none}
 use Rattle.table.specs.declared.Scan.{Scan}
@@ -215,26 +215,26 @@ fact-refused t r = first-earned (earns true (λ i. t) 0) (Term ∷ Blank ∷ Par
 
 -- the triple of a question
 
-blanks-say : (t : Fact) → overBlank t ≡ true ↔ Blanks t
-unfolding overBlank
+blanks-say : (t : Fact) → blankRefused t ≡ true ↔ Blanks t
+unfolding blankRefused
 blanks-say t = (
   λ e. by-cases (isGap (t .predicate)) refusals.in-predicate
       (λ p. let x = both (isGap (t .subject)) (isGap (t .object)) (rw p at e) in refusals.two (x .0) (x .1)),
   go,
 )
   where
-    go : Blanks t → overBlank t ≡ true
+    go : Blanks t → blankRefused t ≡ true
     go (refusals.in-predicate e) = rw e
     go (refusals.two e g) = by-cases (isGap (t .predicate)) (λ p. rw p) (λ p. rw (p, e, g))
 
-blanks-not : (t : Fact) → (Blanks t → ⊥) → overBlank t ≡ false
-blanks-not t h = by-cases (overBlank t) (λ e. absurd (h (blanks-say t .0 e))) (λ e. e)
+blanks-not : (t : Fact) → (Blanks t → ⊥) → blankRefused t ≡ false
+blanks-not t h = by-cases (blankRefused t) (λ e. absurd (h (blanks-say t .0 e))) (λ e. e)
 
 asked-refused : (t : Fact) (r : Refusal) → questionFault t ≡ Faulty r → AskedRefused t r
 unfolding questionFault
 asked-refused t r e =
     by-cases (hasNoTerm t) (λ a. said Term (rw a at e) (refusals.by-term a))
-    (λ a. by-cases (overBlank t) (λ b. said Blank (rw (a, b) at e) (refusals.by-blank a (blanks-say t .0 b)))
+    (λ a. by-cases (blankRefused t) (λ b. said Blank (rw (a, b) at e) (refusals.by-blank a (blanks-say t .0 b)))
     (λ b. by-cases (misplaced t)
     (λ c. said Part (rw (a, b, c) at e) (refusals.by-part a (λ h. let z : true ≡ false = sym (blanks-say t .1 h) ∙ b in let k : _≡_ {A = ℕ} 0 1 = cc in omega arith) c))
     (λ c. let x : Sound ≡ Faulty r = rw (a, b, c) at e in let z : _≡_ {A = ℕ} 0 1 = cc in absurd (omega arith))))

@@ -9,7 +9,7 @@ use Rattle.facts.specs.Answers.{codeOf, numbered}
 use Rattle.table.specs.Tables.{tableBytes}
 use Rattle.question.specs.Question.{needed, questionAnswer}
 
--- a table's facts, the fact put, the allowance, and what is answered: number, place and count
+-- a table's facts, the fact put, the allowance, and what is answered: number, place and count, and no term named
 pub record Case : Type 0 where
   pub table : List Fact
   pub asks : Fact

@@ -20,7 +20,7 @@ use Rattle.facts.specs.declared.Answer.{Answer}
 use Rattle.facts.specs.declared.Answer.the-variants.{Refused}
 use Rattle.facts.specs.declared.Code.{Code}
 use Rattle.facts.specs.Facts.{wellFormed}
-use Rattle.facts.specs.Gaps.{Fills, Askable, filledBy}
+use Rattle.facts.specs.Gaps.{Fills, Askable, AsksSame, filledBy}
 use Rattle.facts.specs.Answers.{codeOf, numberOf, YesWith, LongWith, SaysFollows, SaysNo, AcceptedWith, DoneWith, RefusedWith}
 use Rattle.table.specs.Tables.{rowOf, tableBytes}
 use Rattle.rules.specs.declared.Line.{Line}
@@ -192,6 +192,9 @@ pub record Demand-3 : Type 1 where
   pub read-unnamed : {b entry exit : List ℕ} {n : ℕ} → ReadCall b entry exit n → unpacked n .filling ≡ 0
   pub facts-unnamed : {b : List ℕ} {entry exit : List Fact} {a : Answer} → TransfersRecords b entry exit a → codeOf a .filling ≡ 0
   pub write-unnamed : {row entry exit : List ℕ} {n : ℕ} → WriteCall row entry exit n → unpacked n .filling ≡ 0
+  -- which blank node stands for the gap plays no part: questions that ask the same get the same result and the same output
+  pub any-blank : (p p′ : Put) → p′ .question .table ≡ p .question .table → p′ .question .limit ≡ p .question .limit → p′ .entry ≡ p .entry
+      → AsksSame (p .question .fact) (p′ .question .fact) → (p′ .result ≡ p .result) × (p′ .exit ≡ p .exit)
   -- "With each yes the box prints a derivation with exactly that many table lines, of the length and in the order laid down in document 01, and
   -- the check accepts it for that table and fact, with that count." "the derivation printed is that of the filling named"
   pub printed : (p : Put) (facts : List Fact) → SoundPut p facts → (f x : ℕ) → YesWith (said p) f x

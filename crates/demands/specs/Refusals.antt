@@ -1,6 +1,7 @@
--- Which refusal document 01 lays down for an input: the first that applies, in the order in which its papers try them; and what is sound,
--- said of what it is. Nothing here speaks of a scan or an answer of the program. The tests of one line or fact are those of the table's
--- `earns`; that a line is laid out as its numbers are written is `Demand-1`, field `layout`.
+-- Which refusal documents 01 and 02 (Point 1) lay down for an input: the first that applies, in the order in which they try them; and what
+-- is sound, said of what it is. Nothing here speaks of a scan or an answer of the program. The tests of one line, and of the triple put
+-- to the check, are those of the table's `earns`; those of a question's triple are `AskedRefused`. That a line is laid out as its numbers are
+-- written is `Demand-1`, field `layout`.
 -- Assumes nothing.
 use mathlib.Core.Path.{_≡_}
 use mathlib.Core.Bool.{Bool, false, true}

@@ -2,20 +2,19 @@
 -- what fills a gap is told by the term that stands there.
 -- Assumes nothing.
 use mathlib.Core.Path.{_≡_, refl, sym, ap, _∙_}
-use mathlib.Core.Logic.{_↔_, _⊎_, inl, inr}
-use mathlib.Core.Bool.{Bool, true, false, not, cond, _&&_, _||_, true≢false}
+use mathlib.Core.Logic.{_↔_, inl, inr}
+use mathlib.Core.Bool.{Bool, true, false, _&&_, true≢false}
 use Prim.Native.Nat.{ℕ, _≤_}
 use native.Mathlib.Omega.{arith}
 use lib.Dec.{T}
 use Rattle.facts.specs.declared.Kind.{Kind}
 use Rattle.facts.specs.declared.Kind.the-variants.{NoTerm, Vocabulary, Name, Literal, BlankNode, Beyond}
 use Rattle.facts.specs.declared.Fact.{Fact}
-use Rattle.facts.specs.declared.Verdict.{Verdict}
-use Rattle.facts.specs.declared.Verdict.the-variants.{Sound, Faulty}
-use Rattle.facts.specs.Terms.{kindOf, isNoTerm, isVocabulary, isName, isLiteral, isBlank}
-use Rattle.facts.specs.Facts.{fact, isNode, isPredicate, wellFormed, hasNoTerm, hasBlank, misplaced}
-use Rattle.facts.specs.Gaps.{isGap, Fills, Askable, gapless, subject-gap, object-gap, overBlank, questionFault, fillingOf, termOr, filledBy}
-use Rattle.facts.proofs.Terms.{by-cases, T-of, of-T, of-F, none-of, node-kinds, predicate-kinds}
+use Rattle.facts.specs.declared.Verdict.the-variants.{Sound}
+use Rattle.facts.specs.Terms.{kindOf, isNoTerm, isVocabulary, isLiteral, isBlank}
+use Rattle.facts.specs.Facts.{fact, isNode, isPredicate, wellFormed, hasNoTerm, hasBlank, misplaced, faultOf}
+use Rattle.facts.specs.Gaps.{isGap, SameTerm, AsksSame, Fills, Askable, gapless, subject-gap, object-gap, blankRefused, questionFault, fillingOf, termOr, filledBy}
+use Rattle.facts.proofs.Terms.{by-cases, none-of, node-kinds, predicate-kinds}
 use Rattle.facts.proofs.Facts.{fact-eq, parts, whole, terms-within, passed}
 
 -- a node, and a predicate, is no gap
@@ -84,7 +83,7 @@ module _ (t : Fact) where
   unfolding questionFault
   sound-askable e =
       let a = passed (hasNoTerm t) _ _ e in
-      let b = passed (overBlank t) _ _ (a .1) in
+      let b = passed (blankRefused t) _ _ (a .1) in
       let c = passed (misplaced t) _ _ (b .1) in
       let x = none-of (isNoTerm (kindOf (t .subject))) (isNoTerm (kindOf (t .predicate))) (isNoTerm (kindOf (t .object))) (a .0) in
       let y = none-of false (isGap (t .predicate)) (isGap (t .subject) && isGap (t .object)) (b .0) in
@@ -99,6 +98,20 @@ module _ (t : Fact) where
   -- a question's triple earns none of 3, 4, 5 exactly where it may be asked
   pub question-none : questionFault t ≡ Sound ↔ Askable t
   question-none = (sound-askable, askable-sound)
+
+-- a name in the gap leaves what the other terms earn
+module _ (n : ℕ) where
+  name-kinds : (isNoTerm (kindOf (termOr 6 n)) ≡ isNoTerm (kindOf n)) × (isVocabulary (kindOf (termOr 6 n)) ≡ isVocabulary (kindOf n)) × (isBlank (kindOf (termOr 6 n)) ≡ false)
+  unfolding termOr isGap kindOf
+  name-kinds = by-cases (isGap n) (λ g. let k = gap-kind n g in rw (g, k .0, k .1) (refl, refl, refl)) (λ g. rw g (refl, refl, g))
+
+pub fault-filled : (t : Fact) → hasNoTerm t ≡ false → blankRefused t ≡ false → faultOf (filledBy t 6) ≡ questionFault t
+unfolding faultOf questionFault hasNoTerm hasBlank misplaced filledBy isGap
+fault-filled t a b =
+    let s = name-kinds (t .subject) in
+    let o = name-kinds (t .object) in
+    let p = none-of false (isGap (t .predicate)) (isGap (t .subject) && isGap (t .object)) (rw b tt) .1 in
+    rw (s .0, o .0, s .1, o .1, s .2, o .2, a, b, p)
 
 -- ---- what fills a gap
 
@@ -162,6 +175,29 @@ filling-within t u w =
     by-cases (isGap (t .subject)) (λ g. rw g (x .0)) (λ g. by-cases (isGap (t .object)) (λ h. rw (g, h) (x .2)) (λ h. rw (g, h) (omega arith)))
 
 -- a triple without a blank has neither a blank predicate nor two blanks
-pub hasBlank-over : (t : Fact) → hasBlank t ≡ false → overBlank t ≡ false
-unfolding hasBlank overBlank isGap
-hasBlank-over t e = let x = none-of (isBlank (kindOf (t .subject))) (isBlank (kindOf (t .predicate))) (isBlank (kindOf (t .object))) (rw e tt) in rw (x .1, x .0)
+pub blankless-passes : (t : Fact) → hasBlank t ≡ false → blankRefused t ≡ false
+unfolding hasBlank blankRefused isGap
+blankless-passes t e = let x = none-of (isBlank (kindOf (t .subject))) (isBlank (kindOf (t .predicate))) (isBlank (kindOf (t .object))) (rw e tt) in rw (x .1, x .0)
+
+-- ---- the number of a gap plays no part
+
+-- what asks the same has the same kinds of terms, in all that is asked of them
+gap-same : (x y : ℕ) → SameTerm x y → isGap x ≡ isGap y
+gap-same x y (inl e) = ap isGap e
+gap-same x y (inr (g, h)) = g ∙ sym h
+
+kinds-same : (x y : ℕ) → SameTerm x y → (isNoTerm (kindOf x) ≡ isNoTerm (kindOf y)) × (isVocabulary (kindOf x) ≡ isVocabulary (kindOf y))
+kinds-same x y (inl e) = (ap (λ (n : ℕ). isNoTerm (kindOf n)) e, ap (λ (n : ℕ). isVocabulary (kindOf n)) e)
+kinds-same x y (inr (g, h)) = let a = gap-kind x g in let b = gap-kind y h in (a .0 ∙ sym (b .0), a .1 ∙ sym (b .1))
+
+module _ (t v : Fact) (s : AsksSame t v) where
+  pub fault-same : questionFault t ≡ questionFault v
+  unfolding questionFault hasNoTerm blankRefused misplaced
+  fault-same =
+      let x = kinds-same (t .subject) (v .subject) (s .subject) in
+      let y = kinds-same (t .object) (v .object) (s .object) in
+      rw (x .0, y .0, x .1, y .1, gap-same (t .subject) (v .subject) (s .subject), gap-same (t .object) (v .object) (s .object), s .predicate)
+
+  pub filling-same : (u : Fact) → fillingOf t u ≡ fillingOf v u
+  unfolding fillingOf
+  filling-same u = rw (gap-same (t .subject) (v .subject) (s .subject), gap-same (t .object) (v .object) (s .object))

@@ -2,6 +2,7 @@
 -- question's triple earns. A table, a row and the check know no gap: for them a blank node earns refusal 4 (`faultOf`).
 -- Assumes nothing.
 use mathlib.Core.Path.{_≡_}
+use mathlib.Core.Logic.{_⊎_}
 use mathlib.Core.Bool.{Bool, true, false, cond, _&&_, _||_}
 use Prim.Native.Nat.{ℕ}
 use lib.Dec.{T}
@@ -30,15 +31,25 @@ pub data Askable (t : Fact) : Type 0 where
   subject-gap : isGap (t .subject) ≡ true → (x : ℕ) → T (wellFormed (fact x (t .predicate) (t .object))) → Askable t
   object-gap : isGap (t .object) ≡ true → (x : ℕ) → T (wellFormed (fact (t .subject) (t .predicate) x)) → Askable t
 
+-- two terms of questions are the same, or both are gaps
+abbrev pub SameTerm : ℕ → ℕ → Type 0
+SameTerm x y = (x ≡ y) ⊎ ((isGap x ≡ true) × (isGap y ≡ true))
+
+-- t and v ask the same: they have the same terms, and a gap where the other has one
+pub record AsksSame (t v : Fact) : Type 0 where
+  pub subject : SameTerm (t .subject) (v .subject)
+  pub predicate : t .predicate ≡ v .predicate
+  pub object : SameTerm (t .object) (v .object)
+
 -- refusal 4 in a question: a blank predicate, or two blanks, equal or not
-unfoldable pub overBlank : Fact → Bool
+unfoldable pub blankRefused : Fact → Bool
 unfolding isGap
-overBlank t = isGap (t .predicate) || isGap (t .subject) && isGap (t .object)
+blankRefused t = isGap (t .predicate) || isGap (t .subject) && isGap (t .object)
 
 -- the first of 3, 4, 5 that a question's triple earns, in that order; a gap is in no wrong part
 unfoldable pub questionFault : Fact → Verdict
-unfolding hasNoTerm overBlank misplaced
-questionFault t = cond (hasNoTerm t) (Faulty Term) (cond (overBlank t) (Faulty Blank) (cond (misplaced t) (Faulty Part) Sound))
+unfolding hasNoTerm blankRefused misplaced
+questionFault t = cond (hasNoTerm t) (Faulty Term) (cond (blankRefused t) (Faulty Blank) (cond (misplaced t) (Faulty Part) Sound))
 
 -- what stands in u where t has its gap, and 0 where t has none
 unfoldable pub fillingOf : Fact → Fact → ℕ

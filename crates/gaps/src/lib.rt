@@ -2,45 +2,20 @@
 use facts::Fact;
 use facts::Refusal;
 use facts::Verdict;
+use faults::fault;
 use faults::has_no_term;
 use terms::is_gap;
-use terms::is_literal;
-use terms::is_vocabulary;
-use terms::kind_of;
 ghost use mathlib.Core.Path.{_≡_};
-ghost use Rattle.facts.specs.Facts.{misplaced};
-ghost use Rattle.facts.specs.Gaps.{overBlank, questionFault, fillingOf, termOr, filledBy};
+ghost use Rattle.facts.specs.Gaps.{blankRefused, questionFault, fillingOf, termOr, filledBy};
+
+// A name, which may stand wherever a gap may.
+const SOME_NAME: u32 = 6;
 
 // What earns refusal 4 in a question: a blank predicate, or two blanks.
-fn is_over_blank(t: Fact) -> bool
-    ensures { λ r. ⌜ r ≡ overBlank t ⌝ }
+fn is_blank_refused(t: Fact) -> bool
+    ensures { λ r. ⌜ r ≡ blankRefused t ⌝ }
 {
     is_gap(t.predicate) | (is_gap(t.subject) & is_gap(t.object))
-}
-
-// What earns refusal 5: vocabulary as subject or object, or a literal as predicate.
-fn is_misplaced(t: Fact) -> bool
-    ensures { λ r. ⌜ r ≡ misplaced t ⌝ }
-{
-    is_vocabulary(kind_of(t.subject))
-        | is_vocabulary(kind_of(t.object))
-        | is_literal(kind_of(t.predicate))
-}
-
-// The first of refusals 3, 4 and 5 that a question's triple earns: one gap, as subject or object, earns none.
-pub fn question_fault(t: Fact) -> Verdict
-    ensures { λ r. ⌜ r ≡ questionFault t ⌝ }
-{
-    if has_no_term(t) {
-        return Verdict::Faulty(Refusal::Term);
-    }
-    if is_over_blank(t) {
-        return Verdict::Faulty(Refusal::Blank);
-    }
-    if is_misplaced(t) {
-        return Verdict::Faulty(Refusal::Part);
-    }
-    Verdict::Sound
 }
 
 // What stands in u where t has its gap, and 0 where t has none.
@@ -72,4 +47,18 @@ pub fn filled_by(t: Fact, x: u32) -> Fact
         predicate: t.predicate,
         object: term_or(x, t.object),
     }
+}
+
+// The first of refusals 3, 4 and 5 that a question's triple earns: one gap, as subject or object, earns none, and a name in its
+// place leaves what the other terms earn.
+pub fn question_fault(t: Fact) -> Verdict
+    ensures { λ r. ⌜ r ≡ questionFault t ⌝ }
+{
+    if has_no_term(t) {
+        return Verdict::Faulty(Refusal::Term);
+    }
+    if is_blank_refused(t) {
+        return Verdict::Faulty(Refusal::Blank);
+    }
+    fault(filled_by(t, SOME_NAME))
 }

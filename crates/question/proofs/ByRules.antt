@@ -1,11 +1,11 @@
 -- The answer over any list of rules is one, and by the six rules it is the answer given.
 -- Assumes nothing.
-use mathlib.Core.Path.{_≡_, refl, sym, ap, _∙_}
+use mathlib.Core.Path.{_≡_, refl}
 use mathlib.Core.Logic.{_↔_}
 use mathlib.Core.Bool.{Bool, true, false}
 use mathlib.Core.Option.{Option, none, some}
 use mathlib.Core.List.{List}
-use Prim.Native.Nat.{ℕ, _≤_}
+use Prim.Native.Nat.{ℕ}
 use native.Mathlib.Omega.{arith}
 use lib.Dec.{T, leb}
 use borrow.Author.Tests.{leb-true, leb-false}
@@ -14,7 +14,6 @@ use Rattle.facts.specs.declared.Code.{Code}
 use Rattle.facts.specs.Facts.{wellFormed}
 use Rattle.facts.specs.Gaps.{Askable}
 use Rattle.facts.specs.Answers.{codeOf}
-use Rattle.facts.proofs.Terms.{by-cases}
 use Rattle.rules.specs.Graph.{_∈_}
 use Rattle.rules.specs.Rules.{Rule}
 use Rattle.rules.specs.Derivations.{Relation}

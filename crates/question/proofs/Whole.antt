@@ -15,7 +15,7 @@ use Rattle.facts.specs.declared.Fact.{Fact}
 use Rattle.facts.specs.Terms.{dom, range}
 use Rattle.rules.specs.Steps.{same}
 use Rattle.rules.specs.Graph.{_∈_, Path, least}
-use Rattle.rules.specs.Paths.{startFor, next, goalFor, ways, HasFilling, fewest}
+use Rattle.rules.specs.Paths.{startFor, next, goalFor, ways, HasPathFor, fewest}
 use Rattle.rules.specs.Chosen.{wayOf, chosenBy, chosen}
 use Rattle.rules.proofs.Graph.{short}
 use Rattle.rules.proofs.Steps.{same-eq, same-self}
@@ -80,7 +80,7 @@ module _ (row : List ℕ) (n : ℕ) (t : Fact) where
       → ((v : ℕ) → v ∈ ways t → Bound f v) → Finds row n t places after (Facts f)
   unfolding chosen
   answers-some w f places after a d z k low =
-      let h : HasFilling (factsOf row n) t = record { way = w; asked = a; end = d .end; count = f; path = d .path; goal = d .ends } in
+      let h : HasPathFor (factsOf row n) t = record { way = w; asked = a; end = d .end; count = f; path = d .path; goal = d .ends } in
       let e : fewest (factsOf row n) t ≡ some f = fewest-is (factsOf row n) t (some f) ((h, refl), λ g. low (g .way) (g .asked) (g .end) (g .count) (g .path) (g .goal)) in
       let l : length (chosenBy (factsOf row n) t w f) ≡ f = by-read (factsOf row n) t w f (d .path) (d .ends) .1 .long in
       record { result = rw (e, z, l) refl; places = rw (e, z) k }

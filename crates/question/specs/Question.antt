@@ -122,7 +122,7 @@ pub record Settling (row : List ℕ) (n limit size : ℕ) : Type 0 where
 
 -- ---- the call, and what its answer means
 
--- a question: a table's bytes, the fact put, and its limit
+-- a question: a table's bytes, the triple put, which may have a gap, and its limit
 pub record Question : Type 0 where
   pub table : List ℕ
   pub fact : Fact

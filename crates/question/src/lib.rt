@@ -1,4 +1,5 @@
-// What a question is answered (document 01, "The question"), and the notions of the search: types, definitions and laws.
+// What a question is answered (document 01, "The question"; document 02, Point 1), and the notions of the search: types, definitions
+// and laws.
 use table::PLACES;
 
 // The state of a search, document 01's "record of fixed size": a mark for each place (the layer in which it was reached, 0

@@ -17,7 +17,7 @@ use Rattle.facts.specs.Facts.{fact, wellFormed}
 use Rattle.facts.specs.Gaps.{Fills, Askable}
 use Rattle.facts.proofs.Terms.{by-cases, T-of, of-T}
 use Rattle.rules.specs.Graph.{_∈_, any, Path, first, step, nodes, layer, least}
-use Rattle.rules.specs.Paths.{named, next, startFor, goalFor, HasFilling, reaches, fewest}
+use Rattle.rules.specs.Paths.{named, next, startFor, goalFor, HasPathFor, reaches, fewest}
 use Rattle.rules.specs.Printed.{behind, printOrder, Printable}
 use Rattle.rules.specs.Chosen.{firstOf, arrives, leads, back, backFrom, wayOf, chosenBy, chosenOf, chosen, factIn, PathPlaces, placeBehind, printPlaces, Along, begin, go-on, NotBehind, same, lower, agree}
 use Rattle.rules.proofs.Tests.{any-in, in-any}
@@ -201,7 +201,7 @@ module _ (table : List Fact) (t : Fact) where
       let r = from-some (startFor w t) (next w) table (fact 0 0 0) (goalFor t) k p g in
       (getD table (r .0) (fact 0 0 0), rw (from-is _ _ table _ (goalFor t) k (r .0) (r .1)) (back-read _ _ table _ k (r .0) (r .2) (r .3)), r .4)
 
-  chosen-some : (k : ℕ) → (h : HasFilling table t) → h .count ≡ k → (PathPlaces table t (chosenBy table t (wayOf table t k) k)) × (length (chosenBy table t (wayOf table t k) k) ≡ k)
+  chosen-some : (k : ℕ) → (h : HasPathFor table t) → h .count ≡ k → (PathPlaces table t (chosenBy table t (wayOf table t k) k)) × (length (chosenBy table t (wayOf table t k) k) ≡ k)
   unfolding wayOf
   chosen-some k h e =
       let test : ℕ → Bool = λ w. any (goalFor t) (layer (startFor w t) (next w) table k) in

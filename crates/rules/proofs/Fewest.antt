@@ -14,7 +14,7 @@ use Rattle.facts.specs.Gaps.{Fills, Askable}
 use Rattle.rules.specs.Graph.{_∈_, any, layer, nodes}
 use Rattle.rules.specs.Rules.{Rule}
 use Rattle.rules.specs.Derivations.{Line, Derives, Derivable, tableLines, Least, Entailed}
-use Rattle.rules.specs.Paths.{next, ways, HasPath, startFor, goalFor, HasFilling, fewest, reaches}
+use Rattle.rules.specs.Paths.{next, ways, HasPath, startFor, goalFor, HasPathFor, fewest, reaches}
 use Rattle.rules.specs.Fillings.{DerivableFilling, RefutedFillings, LeastFilling}
 use Rattle.rules.specs.Printed.{printed, printOrder}
 use Rattle.rules.proofs.Tests.{any-in, in-any}
@@ -26,11 +26,11 @@ use Rattle.rules.proofs.Printed.{path-pos, path-printable, path-count}
 use Rattle.rules.proofs.Fillings.{filling-path, path-filling}
 
 module _ (table : List Fact) (t : Fact) where
-  reaches-is : (h : HasFilling table t) → T (reaches table t (h .count))
+  reaches-is : (h : HasPathFor table t) → T (reaches table t (h .count))
   unfolding reaches
   reaches-is h = in-any (λ w. any (goalFor t) (layer (startFor w t) (next w) table (h .count))) (h .asked) (in-any (goalFor t) (path-layer _ _ table (h .path)) (h .goal))
 
-  reaches-says : (k : ℕ) → T (reaches table t k) → (h : HasFilling table t) × (h .count ≡ k)
+  reaches-says : (k : ℕ) → T (reaches table t k) → (h : HasPathFor table t) × (h .count ≡ k)
   unfolding reaches
   reaches-says k r =
       let x = any-in (λ w. any (goalFor t) (layer (startFor w t) (next w) table k)) (ways t) r in
@@ -39,8 +39,8 @@ module _ (table : List Fact) (t : Fact) where
 
   -- no path, or the number of facts of a shortest one
   abbrev pub Best : Option ℕ → Type 0
-  Best none = HasFilling table t → ⊥
-  Best (some k) = ((h : HasFilling table t) × (h .count ≡ k)) × ((h : HasFilling table t) → k ≤ h .count)
+  Best none = HasPathFor table t → ⊥
+  Best (some k) = ((h : HasPathFor table t) × (h .count ≡ k)) × ((h : HasPathFor table t) → k ≤ h .count)
 
   best : (o : Option ℕ) → Answer (reaches table t) 1 (length table) o → Best o
   best none a = λ h. let p = shorten table (λ f m. m) h in a (p .0 .count) (path-pos (p .0 .path)) (omega (arith, p .1)) (reaches-is (p .0))
@@ -69,14 +69,6 @@ module _ (table : List Fact) (wf : (f : Fact) → f ∈ table → T (wellFormed 
     pub path-derives : (h : HasPath table t) → (d : List Line) × Derives Rule table d t × (tableLines d ≡ h .count)
     path-derives h = let p = path-printable table wf h in (printed (printOrder (nodes (h .path))), p .derives, p .tables ∙ path-count h)
 
-    -- the fewest table lines are at most the table's facts
-    pub least-within : (k : ℕ) → Least Rule table t k → k ≤ length table
-    least-within k l =
-        let p = no-fewer {table = table} (λ f m. m) (l .derives) in
-        let s = shorten table (λ f m. m) (p .0) in
-        let q = path-derives (s .0) in
-        omega (arith, l .lowest (q .0) (q .1), q .2, s .1)
-
     -- a fact is derivable exactly where it is in every closed set that holds the table
     pub derivable-entailed : Derivable Rule table t ↔ Entailed Rule table t
     derivable-entailed = (
@@ -88,12 +80,12 @@ module _ (table : List Fact) (wf : (f : Fact) → f ∈ table → T (wellFormed 
 
   module _ (t : Fact) (ask : Askable t) where
     -- a path gives a derivation of a filling
-    filling-derives : (h : HasFilling table t) → (u : Fact) × Fills t u × (d : List Line) × Derives Rule table d u × (tableLines d ≡ h .count)
+    filling-derives : (h : HasPathFor table t) → (u : Fact) × Fills t u × (d : List Line) × Derives Rule table d u × (tableLines d ≡ h .count)
     filling-derives h = let p = path-filling t wf ask h in let d = path-derives (p .filling) (p .run) in (p .filling, p .fills, d .0, d .1, d .2 ∙ p .count)
 
     -- a derivation of a filling from facts of the table gives a path of at most as many facts
     filling-path-for : (part : List Fact) → ((f : Fact) → f ∈ part → f ∈ table) → (u : Fact) → Fills t u → (d : List Line) → Derives Rule part d u
-        → (h : HasFilling table t) × (h .count ≤ tableLines d)
+        → (h : HasPathFor table t) × (h .count ≤ tableLines d)
     filling-path-for part sub u f d g = let p = no-fewer {table = table} sub g in let q = filling-path ask f (p .0) in (q .0, omega (arith, p .1, q .1))
 
     best-least : (k : ℕ) → Best table t (some k) → (u : Fact) × LeastFilling Rule table t k u
@@ -106,7 +98,7 @@ module _ (table : List Fact) (wf : (f : Fact) → f ∈ table → T (wellFormed 
     least-best : (k : ℕ) → (u : Fact) × LeastFilling Rule table t k u → Best table t (some k)
     least-best k (u, l) =
         let p = filling-path-for table (λ f m. m) u (l .fills) (l .least .derivation) (l .least .derives) in
-        let low : (h : HasFilling table t) → k ≤ h .count = λ h. let q = filling-derives h in omega (arith, l .lowest (q .0) (q .1) (q .2) (q .3), q .4) in
+        let low : (h : HasPathFor table t) → k ≤ h .count = λ h. let q = filling-derives h in omega (arith, l .lowest (q .0) (q .1) (q .2) (q .3), q .4) in
         ((p .0, omega (arith, low (p .0), p .1, l .least .count)), low)
 
     -- the fewest over the table is a lower bound also for derivations from part of the table

@@ -2,22 +2,22 @@
 -- the fillings is that of the fact itself.
 -- Assumes nothing.
 use mathlib.Core.Path.{_≡_, refl, sym, ap, _∙_, subst}
-use mathlib.Core.Logic.{_↔_, _⊎_, inl, inr, ⊎-elim}
-use mathlib.Core.Bool.{Bool, true, false, cond, _&&_, _||_, Bool·beq, true≢false}
+use mathlib.Core.Logic.{_↔_, _⊎_, ⊎-elim}
+use mathlib.Core.Bool.{Bool, true, false, cond, Bool·beq, true≢false}
 use mathlib.Core.List.{List}
 use Prim.Native.Nat.{ℕ}
-use lib.Dec.{T, eqb, eqb-refl}
+use lib.Dec.{T, eqb}
 use mir.Facts.{and-yes, yes-and, or-yes, eqb-yes, yes-eqb}
 use Rattle.facts.specs.declared.Fact.{Fact}
-use Rattle.facts.specs.Terms.{kindOf, isName, isLiteral, isVocabulary, sp, dom, range, type}
-use Rattle.facts.specs.Facts.{fact, isNode, isPredicate, wellFormed}
+use Rattle.facts.specs.Terms.{kindOf, isLiteral, range, type}
+use Rattle.facts.specs.Facts.{fact, isNode, wellFormed}
 use Rattle.facts.specs.Gaps.{isGap, Fills, Askable, termOr}
 use Rattle.facts.proofs.Terms.{by-cases, T-of, of-T}
 use Rattle.facts.proofs.Facts.{fact-eq, parts, whole}
 use Rattle.facts.proofs.Gaps.{predicate-whole, askable-subject, askable-predicate, askable-object, fills-predicate, fills-only}
-use Rattle.rules.specs.Graph.{_∈_, Path, nodes}
+use Rattle.rules.specs.Graph.{_∈_, nodes}
 use Rattle.rules.specs.Derivations.{Relation, Derives, Least}
-use Rattle.rules.specs.Paths.{named, link, property, next, typed, start, goal, ways, fits, startFor, goalFor, HasPath, HasFilling}
+use Rattle.rules.specs.Paths.{named, link, property, typed, start, goal, ways, fits, startFor, goalFor, HasPath, HasPathFor}
 use Rattle.rules.specs.Fillings.{LeastFilling}
 use Rattle.rules.proofs.Tests.{or-l, or-r, beq-yes, beq-self}
 use Rattle.rules.proofs.Graph.{map-path, end-in, begins}
@@ -74,7 +74,7 @@ module _ (t : Fact) (S O : ℕ) (s : isGap (t .subject) ≡ false → S ≡ t .s
       (rw (q .1 ∙ property-of u t refl) (beq-self (property t)))
 
 -- a path for a filling of t is one for t, of as many facts
-pub filling-path : {S : List Fact} {t u : Fact} → Askable t → Fills t u → (h : HasPath S u) → (k : HasFilling S t) × (k .count ≡ h .count)
+pub filling-path : {S : List Fact} {t u : Fact} → Askable t → Fills t u → (h : HasPath S u) → (k : HasPathFor S t) × (k .count ≡ h .count)
 unfolding ways
 filling-path {t = t} {u} a f h =
     let p = fills-predicate a f in
@@ -174,14 +174,14 @@ module _ (w : ℕ) (t a b : Fact) (ask : Askable t) (begin : T (startFor w t a))
     }
 
 -- a path for a question, and the path of the same facts for a fact that fills it
-pub record Filled (S : List Fact) (t : Fact) (h : HasFilling S t) : Type 0 where
+pub record Filled (S : List Fact) (t : Fact) (h : HasPathFor S t) : Type 0 where
   pub filling : Fact
   pub fills : Fills t filling
   pub run : HasPath S filling
   pub count : run .count ≡ h .count
   pub facts : nodes (run .path) ≡ nodes (h .path)
 
-pub path-filling : {S : List Fact} (t : Fact) → ((f : Fact) → f ∈ S → T (wellFormed f)) → Askable t → (h : HasFilling S t) → Filled S t h
+pub path-filling : {S : List Fact} (t : Fact) → ((f : Fact) → f ∈ S → T (wellFormed f)) → Askable t → (h : HasPathFor S t) → Filled S t h
 unfolding ways
 path-filling {S} t wf ask h =
     let w : ℕ = h .way in

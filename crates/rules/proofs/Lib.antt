@@ -1,3 +1,4 @@
+pub mod Alike
 pub mod Chosen
 pub mod Derivations
 pub mod Fewest

@@ -15,13 +15,13 @@ use Rattle.facts.specs.Terms.{kindOf, isVocabulary, sc, sp, dom, range, type}
 use Rattle.facts.specs.Facts.{fact, isNode, isPredicate, wellFormed}
 use Rattle.facts.proofs.Terms.{by-cases, T-of, of-T, of-F, node-predicate}
 use Rattle.facts.proofs.Facts.{fact-eq, parts}
-use Rattle.rules.specs.Graph.{_∈_, any, Path, first, step, nodes, layer}
+use Rattle.rules.specs.Graph.{_∈_, Path, first, step, nodes}
 use Rattle.rules.specs.Rules.{Gives, sp-sp, sp-data, sc-sc, sc-type, dom-data, range-data, Rule}
 use Rattle.rules.specs.Derivations.{Line, Derives, tableFacts, tableLines, Closed, Holds}
 use Rattle.rules.specs.Steps.{same}
 use Rattle.rules.specs.Paths.{named, link, property, chain, onlyTable, goesOn, next, typed, start, goal, ways, Runs, HasPath}
-use Rattle.rules.proofs.Tests.{or-l, or-r, beq-yes, beq-self, in-any, any-in}
-use Rattle.rules.proofs.Graph.{map-path, append-path, end-in, path-layer, layer-path, short}
+use Rattle.rules.proofs.Tests.{or-l, or-r, beq-yes, beq-self}
+use Rattle.rules.proofs.Graph.{map-path, append-path, end-in, short}
 use Rattle.rules.proofs.Steps.{same-eq, same-self, rule-numbered}
 use Rattle.rules.proofs.Derivations.{closed-derives, tableFacts-in}
 

@@ -1,5 +1,5 @@
--- Which of the shortest paths for a question is meant: by domain, and by range only where that is shorter; of those the one whose last fact stands first
--- in the table, then whose last but one, and so on.
+-- Which of the shortest paths for a question is meant: by domain, and by range only where that is shorter; of those the one whose
+-- last fact stands first in the table, then whose last but one, and so on.
 -- Assumes nothing.
 use mathlib.Core.Path.{_≡_}
 use mathlib.Core.Bool.{Bool, false, cond, _&&_}
@@ -12,7 +12,7 @@ use Rattle.facts.specs.declared.Fact.{Fact}
 use Rattle.facts.specs.Terms.{kindOf, sp}
 use Rattle.facts.specs.Facts.{fact}
 use Rattle.rules.specs.Graph.{_∈_, any, nodes, layer, least}
-use Rattle.rules.specs.Paths.{named, startFor, next, goalFor, ways, HasFilling, fewest}
+use Rattle.rules.specs.Paths.{named, startFor, next, goalFor, ways, HasPathFor, fewest}
 
 -- the first element that passes, or else d
 unfoldable pub firstOf : {A : Type 0} → (A → Bool) → A → List A → A
@@ -86,7 +86,7 @@ factIn table i = getD table i (fact 0 0 0)
 
 -- the facts at the places, in order, are those of a path for t
 pub record PathPlaces (table : List Fact) (t : Fact) (places : List ℕ) : Type 0 where
-  pub path : HasFilling table t
+  pub path : HasPathFor table t
   pub count : path .count ≡ length places
   pub facts : map (factIn table) places ≡ nodes (path .path)
   pub inside : (i : ℕ) → i ∈ places → i < length table

@@ -101,8 +101,8 @@ unfolding link property fits
 goalFor t a = fits (link t) (link a) && Bool·beq (property a) (property t)
 
 -- a path for the question t over the facts S: one for a fact that fills it (`filling-path`, `path-filling`)
-abbrev pub HasFilling : List Fact → Fact → Type 0
-HasFilling S t = Runs (λ w. startFor w t) (goalFor t) (ways t) S
+abbrev pub HasPathFor : List Fact → Fact → Type 0
+HasPathFor S t = Runs (λ w. startFor w t) (goalFor t) (ways t) S
 
 -- some path for t over S has k facts
 unfoldable pub reaches : List Fact → Fact → ℕ → Bool

@@ -1,4 +1,4 @@
-// Part of the search: breadth first over the table's facts, layer by layer, until the fact put is reached.
+// Part of the search: breadth first over the table's facts, layer by layer, until a goal is reached.
 use facts::Fact;
 use question::Reached;
 use question::State;

@@ -1,8 +1,9 @@
-// The kind of a term, and whether a fact is well-formed (document 01, "Terms and facts"). Only this crate tells terms apart.
+// The kind of a term, whether a fact is well-formed (document 01, "Terms and facts"), and what is a gap (document 02, Point 1). Only
+// this crate tells terms apart.
 use facts::Fact;
 use facts::Kind;
 ghost use mathlib.Core.Path.{_≡_};
-ghost use Rattle.facts.specs.Terms.{kindOf, isNoTerm, isVocabulary, isLiteral, isBlank, isName};
+ghost use Rattle.facts.specs.Terms.{kindOf, isNoTerm, isBlank, isName};
 ghost use Rattle.facts.specs.Facts.{isNode, isPredicate, wellFormed};
 ghost use Rattle.facts.specs.Gaps.{isGap};
 
@@ -61,34 +62,6 @@ pub fn is_blank(k: Kind) -> bool
         Kind::Vocabulary => false,
         Kind::Name => false,
         Kind::Literal => false,
-        Kind::Beyond => false,
-    }
-}
-
-// One of the vocabulary.
-pub fn is_vocabulary(k: Kind) -> bool
-    ensures { λ r. ⌜ r ≡ isVocabulary k ⌝ }
-{
-    match k {
-        Kind::Vocabulary => true,
-        Kind::NoTerm => false,
-        Kind::Name => false,
-        Kind::Literal => false,
-        Kind::BlankNode => false,
-        Kind::Beyond => false,
-    }
-}
-
-// A literal.
-pub fn is_literal(k: Kind) -> bool
-    ensures { λ r. ⌜ r ≡ isLiteral k ⌝ }
-{
-    match k {
-        Kind::Literal => true,
-        Kind::NoTerm => false,
-        Kind::Vocabulary => false,
-        Kind::Name => false,
-        Kind::BlankNode => false,
         Kind::Beyond => false,
     }
 }

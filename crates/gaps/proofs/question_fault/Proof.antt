@@ -1,8 +1,10 @@
--- `gaps::question_fault` meets its contract: 3, then 4, then 5 is tried.
+-- `gaps::question_fault` meets its contract: 3, then 4 is tried, and then what is earned with a name in the gap.
 -- Assumes nothing.
+use mathlib.Core.Path.{sym, ap, _∙_}
 use borrow.Author.Needs.{needs}
-use mathlib.Core.Path.{sym, _∙_}
+use Rattle.facts.specs.Facts.{faultOf}
 use Rattle.facts.specs.Gaps.{questionFault}
+use Rattle.facts.proofs.Gaps.{fault-filled}
 use Rattle.gaps.proofs.question_fault.Statement.{statement}
 use Rattle.gaps.proofs.question_fault.Tie as tie
 
@@ -13,23 +15,24 @@ returns : tie.Need-returns
 unfolding questionFault
 returns c = rw (← c .before .has-no-term .ensures, c .if1 .taken)
 
-is-over-blank-requires : tie.Need-is-over-blank-requires
-is-over-blank-requires c κs = search needs
+is-blank-refused-requires : tie.Need-is-blank-refused-requires
+is-blank-refused-requires c κs = search needs
 
 returns-2 : tie.Need-returns-2
 unfolding questionFault
-returns-2 c = rw (← c .before .before .before .has-no-term .ensures, c .before .before .if1 .left, ← c .before .is-over-blank .ensures, c .if2 .taken)
+returns-2 c = rw (← c .before .before .before .has-no-term .ensures, c .before .before .if1 .left, ← c .before .is-blank-refused .ensures, c .if2 .taken)
 
-is-misplaced-requires : tie.Need-is-misplaced-requires
-is-misplaced-requires c κs = search needs
+filled-by-requires : tie.Need-filled-by-requires
+filled-by-requires c κs = search needs
+
+fault-requires : tie.Need-fault-requires
+fault-requires c κs = search needs
 
 returns-3 : tie.Need-returns-3
-unfolding questionFault
-returns-3 c = rw (← c .before .before .before .before .before .has-no-term .ensures, c .before .before .before .before .if1 .left, ← c .before .before .before .is-over-blank .ensures, c .before .before .if2 .left, ← c .before .is-misplaced .ensures, c .if3 .taken)
-
-returns-4 : tie.Need-returns-4
-unfolding questionFault
-returns-4 c = rw (← c .before .before .before .before .before .has-no-term .ensures, c .before .before .before .before .if1 .left, ← c .before .before .before .is-over-blank .ensures, c .before .before .if2 .left, ← c .before .is-misplaced .ensures, c .if3 .left)
+returns-3 c =
+    c .fault .ensures ∙ ap faultOf (c .before .filled-by .ensures)
+    ∙ fault-filled _ (sym (c .before .before .before .before .before .has-no-term .ensures) ∙ c .before .before .before .before .if1 .left)
+    (sym (c .before .before .before .is-blank-refused .ensures) ∙ c .before .before .if2 .left)
 
 pub question-fault-spec : {M : Type 1} → statement M
 question-fault-spec =
@@ -37,8 +40,8 @@ question-fault-spec =
     (tie.spec
     has-no-term-requires
     returns
-    is-over-blank-requires
+    is-blank-refused-requires
     returns-2
-    is-misplaced-requires
-    returns-3
-    returns-4)
+    filled-by-requires
+    fault-requires
+    returns-3)
