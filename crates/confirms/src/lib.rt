@@ -22,7 +22,7 @@ pub fn confirm(table: &[u8], fact: Fact, limit: u32, output: &mut [u8]) -> Confi
             verdict: a,
         };
     };
-    let used = search::needed_for(f);
+    let used = search_limits::needed_for(f);
     let v = checker::check(table, gaps::filled_by(fact, x), &output[..used]);
     Confirmed {
         answer: a,

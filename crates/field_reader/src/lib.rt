@@ -2,16 +2,14 @@
 use columns::LINE_END;
 use columns::NO_FIELD;
 use columns::SPACE;
-use columns::ZERO;
+use digit_reader::digit_more;
+use digit_reader::first_digit;
+use digit_reader::with_digit;
 ghost use mathlib.Core.Path.{_≡_};
 ghost use Prim.Native.Nat.{_+_, _*_, _≤_, _<_};
 ghost use lib.ListN.{length};
 ghost use Rattle.columns.specs.Fields.{joined, numberAt, fieldAt};
-ghost use Rattle.columns.specs.Columns.{withDigit, firstDigit, digitMore};
 ghost use Rattle.columns.specs.Lines.{width, laidOut};
-
-// The digit 9.
-const NINE: u8 = 57;
 
 // The number with one column more.
 fn join(n: u32, b: u8) -> u32
@@ -30,44 +28,6 @@ pub fn number_at(s: &[u8], at: usize) -> u32
         join(join(join(join(0, s[at]), s[at + 1]), s[at + 2]), s[at + 3]),
         s[at + 4],
     )
-}
-
-// The number with one digit more, or NO_FIELD where the byte is no digit. The bound keeps the sum within 32 bits.
-fn with_digit(n: u32, b: u8) -> u32
-    requires { ⌜ n < 400000000 ⌝ }
-    ensures { λ r. ⌜ r ≡ withDigit n b ⌝ }
-{
-    if b < ZERO {
-        return NO_FIELD;
-    }
-    if NINE < b {
-        return NO_FIELD;
-    }
-    n * 10 + b as u32 - 48
-}
-
-// The first digit of a number of several digits, which is not 0, or NO_FIELD where the byte is no such digit.
-fn first_digit(b: u8) -> u32
-    ensures { λ r. ⌜ (r ≡ firstDigit b) × (r ≤ 100000) ⌝ }
-{
-    if b <= ZERO {
-        return NO_FIELD;
-    }
-    if NINE < b {
-        return NO_FIELD;
-    }
-    b as u32 - 48
-}
-
-// What was read with one digit more, where NO_FIELD stays NO_FIELD. The last bound serves the digits behind it.
-fn digit_more(n: u32, b: u8) -> u32
-    requires { ⌜ n < 400000000 ⌝ }
-    ensures { λ r. ⌜ (r ≡ digitMore n b) × (r ≤ n * 10 + 100000) ⌝ }
-{
-    if n == NO_FIELD {
-        return NO_FIELD;
-    }
-    with_digit(n, b)
 }
 
 // The number of the field from a place on, or NO_FIELD where no field stands. Each return is for one column of the first digit.

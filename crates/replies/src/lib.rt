@@ -32,7 +32,7 @@ fn reply_bytes(a: Answer) -> usize
     let Answer::Yes(f, _) = a else {
         return LINE_BYTES;
     };
-    LINE_BYTES + search::needed_for(f)
+    LINE_BYTES + search_limits::needed_for(f)
 }
 
 // Writes the reply to a question about the table into the front of the output, and gives its length. The output behind the first

@@ -1,13 +1,12 @@
 // The question (document 01, "The question"; document 02, Point 1): whether a fact, or one that fills a gap, follows from a table, from
 // how few of its facts, and a derivation with exactly that many. The search is breadth first over the table's facts, in a row of three numbers a fact.
-use derivation_lines::LINE_BYTES;
 use facts::Answer;
 use facts::Fact;
-use facts::Refusal;
 use facts::Verdict;
 use question::Found;
 use reader::load;
 use search_choice::shortest;
+use search_limits::verdict;
 use search_print::print;
 use search_print::print_order;
 use table::PLACES;
@@ -19,40 +18,7 @@ ghost use lib.ListN.{length};
 ghost use Rattle.facts.specs.Facts.{fact};
 ghost use Rattle.facts.specs.Answers.{codeOf};
 ghost use Rattle.question.specs.Row.{factsOf};
-ghost use Rattle.question.specs.Question.{needed, asked, answerOf, printedFor, written, Settling, question, Answered, Means};
-
-// The most that a limit may be.
-const LIMIT_MOST: u32 = 1024;
-
-// The bytes of output that a limit asks for, and those of a derivation with so many table lines: 2 x limit - 1 lines, and none
-// for 0.
-pub fn needed_for(limit: u32) -> usize
-    ensures { λ r. ⌜ r ≡ needed limit ⌝ }
-{
-    if limit == 0 {
-        return 0;
-    }
-    LINE_BYTES * (2 * (limit as usize) - 1)
-}
-
-// The first of refusals 3, 4, 5, 7 and 8 that a question to an accepted table earns, with so many bytes of output.
-fn verdict(t: Fact, limit: u32, size: usize) -> Verdict
-    ensures { λ r. ⌜ r ≡ asked t limit size ⌝ }
-{
-    let v = gaps::question_fault(t);
-    match v {
-        Verdict::Faulty(r) => Verdict::Faulty(r),
-        Verdict::Sound => {
-            if LIMIT_MOST < limit {
-                return Verdict::Faulty(Refusal::Allowance);
-            }
-            if size < needed_for(limit) {
-                return Verdict::Faulty(Refusal::Short);
-            }
-            Verdict::Sound
-        }
-    }
-}
+ghost use Rattle.question.specs.Question.{answerOf, printedFor, written, Settling, question, Answered, Means};
 
 // The answer from a table's facts; a yes writes its derivation into the output, and names what fills a gap on its last line.
 fn settle(row: &[u32], n: usize, t: Fact, limit: u32, output: &mut [u8]) -> Answer

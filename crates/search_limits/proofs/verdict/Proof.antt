@@ -1,12 +1,12 @@
--- `search::verdict` meets its contract: the triple's own refusal, then the limit's, then that of the output.
+-- `search_limits::verdict` meets its contract: the triple's own refusal, then the limit's, then that of the output.
 -- Assumes nothing.
 use mathlib.Core.Path.{sym, _∙_}
 use borrow.Author.Tests.{le-leb, lt-leb}
 use Rattle.facts.specs.Facts.{orElse}
 use Rattle.question.specs.Question.{needed, asked}
 use borrow.Author.Needs.{needs}
-use Rattle.search.proofs.verdict.Statement.{statement}
-use Rattle.search.proofs.verdict.Tie as tie
+use Rattle.search_limits.proofs.verdict.Statement.{statement}
+use Rattle.search_limits.proofs.verdict.Tie as tie
 
 question-fault-requires : tie.Need-question-fault-requires
 question-fault-requires c κs = search needs

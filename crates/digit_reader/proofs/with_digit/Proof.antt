@@ -1,10 +1,10 @@
--- `field_reader::with_digit` meets its contract: a digit or not.
+-- `digit_reader::with_digit` meets its contract: a digit or not.
 -- Assumes nothing.
 use native.Mathlib.Omega.{arith}
 use borrow.Author.Needs.{needs}
 use Rattle.columns.proofs.Columns.{digit-below, digit-above, digit-some}
-use Rattle.field_reader.proofs.with_digit.Statement.{statement}
-use Rattle.field_reader.proofs.with_digit.Tie as tie
+use Rattle.digit_reader.proofs.with_digit.Statement.{statement}
+use Rattle.digit_reader.proofs.with_digit.Tie as tie
 
 returns : tie.Need-returns
 returns c = digit-below (c .before .args .n) (c .before .args .b) (omega arith)

@@ -1,11 +1,11 @@
--- `field_reader::digit_more` meets its contract: what is no number stays that, and else `with_digit` says what is read.
+-- `digit_reader::digit_more` meets its contract: what is no number stays that, and else `with_digit` says what is read.
 -- Assumes nothing.
 use mathlib.Core.Path.{sym, _∙_}
 use native.Mathlib.Omega.{arith}
 use borrow.Author.Needs.{needs}
 use Rattle.columns.proofs.Columns.{more-none, more-some, digit-most}
-use Rattle.field_reader.proofs.digit_more.Statement.{statement}
-use Rattle.field_reader.proofs.digit_more.Tie as tie
+use Rattle.digit_reader.proofs.digit_more.Statement.{statement}
+use Rattle.digit_reader.proofs.digit_more.Tie as tie
 
 returns : tie.Need-returns
 returns c = (rw (c .if1 .taken) (sym (more-none (c .before .args .b))), omega arith)

@@ -1,10 +1,10 @@
--- `field_reader::first_digit` meets its contract: a digit other than 0, or not.
+-- `digit_reader::first_digit` meets its contract: a digit other than 0, or not.
 -- Assumes nothing.
 use native.Mathlib.Omega.{arith}
 use borrow.Author.Needs.{needs}
 use Rattle.columns.proofs.Columns.{digit-below, digit-above, digit-some, first-none, first-some}
-use Rattle.field_reader.proofs.first_digit.Statement.{statement}
-use Rattle.field_reader.proofs.first_digit.Tie as tie
+use Rattle.digit_reader.proofs.first_digit.Statement.{statement}
+use Rattle.digit_reader.proofs.first_digit.Tie as tie
 
 returns : tie.Need-returns
 returns c = let b = c .before .args .b in (first-none b (λ z. digit-below 0 b (omega arith)), omega arith)
