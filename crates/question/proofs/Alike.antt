@@ -5,7 +5,6 @@ use mathlib.Core.List.{List}
 use Prim.Native.Nat.{ℕ}
 use lib.ListN.{length}
 use Rattle.facts.specs.declared.Fact.{Fact}
-use Rattle.facts.specs.Facts.{orElse}
 use Rattle.facts.specs.Gaps.{AsksSame}
 use Rattle.facts.proofs.Gaps.{fault-same, filling-same}
 use Rattle.table.specs.Tables.{Table, accepted, refused, tableOf}

@@ -13,7 +13,7 @@ use Rattle.facts.specs.Facts.{wellFormed}
 use Rattle.facts.specs.Gaps.{Fills, Askable}
 use Rattle.rules.specs.Graph.{_∈_, any, layer, nodes}
 use Rattle.rules.specs.Rules.{Rule}
-use Rattle.rules.specs.Derivations.{Line, Derives, Derivable, tableLines, Least, Entailed}
+use Rattle.rules.specs.Derivations.{Line, Derives, Derivable, tableLines, Entailed}
 use Rattle.rules.specs.Paths.{next, ways, HasPath, startFor, goalFor, HasPathFor, fewest, reaches}
 use Rattle.rules.specs.Fillings.{DerivableFilling, RefutedFillings, LeastFilling}
 use Rattle.rules.specs.Printed.{printed, printOrder}
