@@ -1,4 +1,4 @@
-/* The fact box's calls for a C program.
+/* The fact box's calls for a program in C (C99 or newer) or C++ (C++98 or newer).
  *
  * A table is bytes: one line of 16 bytes a fact, three fields of five columns (subject, predicate, object: decimal numbers,
  * right-justified, spaces before them, no leading zero), then byte 10. Lines ascend strictly by subject, then predicate,
@@ -31,12 +31,13 @@
  *   object
  *
  * A question may have a gap: one blank node, as subject or object. (FACTBOX_GAP 5 12) asks whether some X is of type 12. Any
- * of 60000 to 65535 asks the same; the number has no meaning. A filling is a term that makes the triple a fact when it stands
- * in the gap: a name or a literal. With a gap
- * - yes names a filling that follows from as few table facts as any does. That number is the count, and the derivation ends
- *   in the triple with this filling. Where several follow from equally few, it names one of them;
- * - long has that number as its count too, and names none;
- * - no says that no filling follows.
+ * of 60000 to 65535 asks the same; the number has no meaning. A filling is a name or a literal put in the gap's place.
+ * - Yes: with some filling the triple follows, and it names one that needs as few table facts as any; where several need
+ *   equally few, one of them. That number is the count, and the derivation ends in the triple with this filling.
+ * - Long: with some filling the triple follows, but with each it needs more table facts than allowed. The count is the
+ *   fewest; no filling is named.
+ * - No: with no filling does it follow.
+ * Further fillings can't be asked for; whether a certain one makes the triple follow is a question without a gap.
  *
  * Over the table "   10   13   20\n   11    1   12\n   13    2   14\n   14    3   11\n":
  *
@@ -76,7 +77,8 @@ enum {
     FACTBOX_SIZE = 1,       /* table not a multiple of 16 bytes, or above 16,384; row not a multiple of 3 numbers, or above 3,072 */
     FACTBOX_COLUMN = 2,     /* a field or the line end is not as laid out; place: the line */
     FACTBOX_TERM = 3,       /* a number is 0 or above 65535; place: the line, or 0 for the triple put */
-    FACTBOX_BLANK = 4,      /* a number is 60000 to 65535, where no gap may stand; place: the line, or 0 for the triple put */
+    FACTBOX_BLANK = 4,      /* a number is 60000 to 65535 in a table, a row or the triple of a check, or as predicate of a question;
+                             * or a question has two gaps; place: the line, or 0 for the triple put */
     FACTBOX_PART = 5,       /* vocabulary as subject or object, or a literal as predicate; place: the line, or 0 for the triple put */
     FACTBOX_ORDER = 6,      /* a fact is not above the one before it; place: the line */
     FACTBOX_ALLOWANCE = 7,  /* the allowance is above 1,024 */
@@ -84,9 +86,10 @@ enum {
     FACTBOX_FORM = 9,       /* a derivation of 0 bytes, not a multiple of 31, or above 63,457; or, with its line as place, a badly laid out line */
     FACTBOX_STEP = 10,      /* a line is neither a table line nor a rule's result; place: the first such line */
     FACTBOX_END = 11,       /* the last line is not the triple put; place: the last line */
-    FACTBOX_YES = 90,       /* the triple follows, from no more table facts than allowed; count: the fewest it follows from; filling: of its gap */
-    FACTBOX_NO = 91,        /* the triple does not follow; with a gap, no filling follows; count: 0 */
-    FACTBOX_LONG = 92,      /* the triple follows, but needs more table facts than allowed; with a gap, every filling does; count: the fewest */
+    FACTBOX_YES = 90,       /* the triple follows, from no more table facts than allowed; count: the fewest it follows from;
+                             * filling: what fills the gap, 0 without one */
+    FACTBOX_NO = 91,        /* the triple does not follow; with a gap, it follows with no filling; count: 0 */
+    FACTBOX_LONG = 92,      /* the triple follows, but needs more table facts than allowed; with a gap, with every filling; count: the fewest */
     FACTBOX_ACCEPTED = 93   /* the derivation is accepted; count: its table lines */
 };
 
@@ -110,7 +113,7 @@ enum {
  * takes some 3,100 bytes on top of the call that needs it. */
 
 /* Whether (subject predicate object) follows from the table, from how few of its facts, and a derivation with that many.
- * Subject or object may be a gap: then the count is the fewest over all fillings, and YES names one that it is the count of.
+ * Subject or object may be a gap: then the count is the fewest over all fillings, and YES names a filling that has this count.
  * `limit` is the allowance: how many table facts it may take, 0 to 1,024. `output` has at least factbox_output_size(limit)
  * bytes. YES writes 2 * count - 1 lines of 31 bytes; nothing else writes.
  * Tried in this order: the table (1; then its lines, each for 2, 3, 4, 5, 6); the triple, for 3 in all its terms, then 4 (a
@@ -136,16 +139,17 @@ uint64_t factbox_read(const uint8_t *table, size_t table_len, uint32_t *row, siz
 uint64_t factbox_write(const uint32_t *row, size_t row_len, uint8_t *output, size_t output_len);
 
 /* The parts of a result: bits 0-7 number, 8-31 place, 32-47 count, 48-63 filling. */
-static inline unsigned factbox_number(uint64_t result) { return (unsigned)(result & 0xff); }
-static inline unsigned factbox_place(uint64_t result) { return (unsigned)(result >> 8 & 0xffffff); }
-static inline unsigned factbox_count(uint64_t result) { return (unsigned)(result >> 32 & 0xffff); }
+static inline unsigned factbox_number(uint64_t result) { return result & 0xff; }
+static inline unsigned factbox_place(uint64_t result) { return result >> 8 & 0xffffff; }
+static inline unsigned factbox_count(uint64_t result) { return result >> 32 & 0xffff; }
 
 /* What fills the gap, after a YES to a question that has one: a term, 6 to 59999. After anything else, 0. */
-static inline unsigned factbox_filling(uint64_t result) { return (unsigned)(result >> 48); }
+static inline unsigned factbox_filling(uint64_t result) { return factbox_count(result >> 16); }
 
 /* Bytes that a question with this allowance needs lent: 31 * (2 * limit - 1), and 0 for limit 0. */
 static inline size_t factbox_output_size(uint32_t limit) {
-    return limit == 0 ? 0 : FACTBOX_DERIVATION_LINE * (2 * (size_t)limit - 1);
+    size_t facts = limit;
+    return facts == 0 ? 0 : FACTBOX_DERIVATION_LINE * (2 * facts - 1);
 }
 
 #ifdef __cplusplus

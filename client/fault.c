@@ -54,7 +54,7 @@ static const char *byte_words(const line *r, size_t at) {
     case '\t': return "a tab: fields are padded with spaces";
     case ',':
     case ';': return "a comma or semicolon: fields are padded with spaces";
-    case '?': return "a gap, which only a question may have";
+    case '?': return "a question mark: a table has no gaps";
     default: return "text that is no number";
     }
 }

@@ -9,7 +9,7 @@
 enum { FACT_FIELDS = 3, QUESTION_FIELDS = 4, PREDICATE = 1 };
 
 /* What went wrong last. */
-static char wrong[320];
+static char wrong[400];
 
 int is_digit(char c) { return c >= '0' && c <= '9'; }
 
@@ -76,15 +76,16 @@ static const char *decimal(const char *text, size_t len, uint32_t *value) {
 /* Whether `?` may stand at this place of a line of `count` fields. Which terms of a question may be gaps the box judges. */
 static int takes_gap(size_t place, size_t count) { return count == QUESTION_FIELDS && place < FACT_FIELDS; }
 
-/* Why a text is no field: for the reason given it is no number. */
+/* Why a text is no field: for the reason given it is no number. In a question it may have been meant as a gap. */
 static const char *no_field(const char *text, size_t len, size_t place, size_t count, const char *why) {
+    int question = count == QUESTION_FIELDS, gap = len == 1 && *text == '?';
+    const char *hint = question && !gap && memchr(text, '?', len) ? "; a gap is ? alone, as subject or object" : "";
     if (predicate_number(text, len)) why = "can only stand in the predicate's place";
-    else if (len == 1 && *text == '?')
-        why = count == QUESTION_FIELDS ? "is a gap, which can't be the allowance" : "is a gap, which only a question may have";
+    else if (gap && question) why = "is a gap, which can't be the allowance";
+    else if (gap) why = place == PREDICATE ? "is a gap, which can't be a predicate" : "is a gap, which only a question may have";
     else if (place == PREDICATE && !is_digit(*text))
         why = "is neither a number nor subclass, subproperty, domain, range or type";
-    else if (*text == '?' && takes_gap(place, count)) why = "is no number, and a gap is ? alone";
-    snprintf(wrong, sizeof wrong, "%s %s", quoted(text, len), why);
+    snprintf(wrong, sizeof wrong, "%s %s%s", quoted(text, len), why, hint);
     return wrong;
 }
 
@@ -130,9 +131,10 @@ const char *line_fields(const char *text, size_t len, size_t count, uint32_t *fi
         found++;
     }
     if (found == count) return NULL;
-    const char *what = count == FACT_FIELDS ? "a fact is subject, predicate, object"
-                                            : "a question is subject, predicate, object, allowance";
-    snprintf(wrong, sizeof wrong, "%zu field%s: %s", found, plural(found), what);
+    const char *what = count == FACT_FIELDS ? "a fact has 3: subject, predicate, object"
+                                            : "a question has 4: subject, predicate, object, allowance";
+    const char *hint = count == QUESTION_FIELDS && found < count ? " (? for a gap)" : "";
+    snprintf(wrong, sizeof wrong, "the line has %zu field%s, %s%s", found, plural(found), what, hint);
     return wrong;
 }
 

@@ -7,7 +7,7 @@
  * The table is tried first, also where no question follows. If it is refused, the screen shows the line and what is
  * probably wrong with it, and ends. A question is written as lines.h says: numbers apart, or in the box's own layout; the
  * predicate may be a word, and `?` (or 60000 to 65535) as subject or object asks for a term that may stand there. One that
- * can't be read is named on standard error with file and line, and the next are answered.
+ * is refused is shown with file and line; one that can't be read is named with them on standard error. The next are answered.
  *
  * Exit status: 0 all was answered; 1 the table, a question or the derivation was refused; 2 bad usage, a question that
  * can't be read, a file that can't be read, a failed write, or a derivation of the box that its own check does not accept.
@@ -53,14 +53,26 @@ static void flush(void) {
     if (fflush(stdout) || ferror(stdout)) fail("can't be written", "standard output");
 }
 
-/* Says what was refused and where; if its terms were, why. The table was sound, so the place is a line of the derivation. */
-static void show_refusal(uint64_t result, const char *put, const char *why) {
+/* What to do about a gap in the triple put to the check. */
+static const char NAMED[] = ": put the term that the answer named";
+
+/* Shows that a question was refused, where it stands and why. */
+static int refuse_question(unsigned number, const uint32_t *question, const lines *at) {
+    answer("REFUSED", RED, question_words(question));
+    printf("%u %s\n  %s:%u: %s\n", number, question_refusal(number), at->name, at->line, question_fault(number, question));
+    return REFUSED;
+}
+
+/* Shows that the check refused; if the triple, why. The table was sound, so the place is a line of the derivation. */
+static int refuse_derivation(uint64_t result, const uint32_t *fact) {
     unsigned number = factbox_number(result), place = factbox_place(result);
-    answer("REFUSED", RED, put);
+    int gap = number == FACTBOX_BLANK && !is_blank(fact[1]);
+    answer("REFUSED", RED, fact_words(fact));
     printf("%u %s", number, refusal_words(number));
     if (place > 0) printf(" (derivation line %u)", place);
     printf("\n");
-    if (number >= FACTBOX_TERM && number <= FACTBOX_PART) printf("  %s\n", why);
+    if (number >= FACTBOX_TERM && number <= FACTBOX_PART) printf("  %s%s\n", fact_fault(number, fact), gap ? NAMED : "");
+    return REFUSED;
 }
 
 /* A field of a line that the library printed or accepted. */
@@ -94,14 +106,15 @@ static int show_yes(const uint32_t *question, unsigned count, unsigned filling) 
         return FAILED;
     }
     answer("YES", GREEN, question_words(question));
-    if (has_gap(question)) printf("%u, ", filling);
+    if (has_gap(question)) printf("X is %u, ", filling);
     printf("from %u table fact%s\n", count, plural(count));
     show_derivation(derivation, printed);
     return ANSWERED;
 }
 
-/* Puts the question and shows the answer. */
-static int ask(const uint32_t *question, uint32_t allowance) {
+/* Puts the question, a triple and its allowance, that stands on this line, and shows the answer. */
+static int ask(const uint32_t *question, const lines *at) {
+    uint32_t allowance = question[3];
     size_t room = allowance <= FACTBOX_FACTS_MAX ? factbox_output_size(allowance) : 0;
     uint64_t result =
         factbox_question(table, table_len, question[0], question[1], question[2], allowance, derivation, room);
@@ -111,15 +124,14 @@ static int ask(const uint32_t *question, uint32_t allowance) {
     case FACTBOX_YES: return show_yes(question, count, factbox_filling(result));
     case FACTBOX_NO:
         answer("NO", RED, put);
-        printf("%s from the table\n", has_gap(question) ? "no such X follows" : "does not follow");
+        printf("%s\n", has_gap(question) ? "follows from the table for no X" : "does not follow from the table");
         return ANSWERED;
     case FACTBOX_LONG:
         answer("LONG", YELLOW, put);
-        printf("takes %u table fact%s, %u allowed\n", count, plural(count), (unsigned)allowance);
+        printf("%s %u table fact%s, %u allowed\n", has_gap(question) ? "every X takes at least" : "takes", count,
+               plural(count), (unsigned)allowance);
         return ANSWERED;
-    default:
-        show_refusal(result, put, number == FACTBOX_BLANK ? gap_fault(question) : fact_fault(number, question));
-        return REFUSED;
+    default: return refuse_question(number, question, at);
     }
 }
 
@@ -128,7 +140,7 @@ static int ask_all(lines questions) {
     while (next_line(&questions)) {
         uint32_t question[4];
         const char *wrong = line_fields(questions.text, questions.len, 4, question);
-        int found = wrong ? FAILED : ask(question, question[3]);
+        int found = wrong ? FAILED : ask(question, &questions);
         if (wrong) fprintf(stderr, "%s:%u: %s\n", questions.name, questions.line, wrong);
         if (found > status) status = found;
         flush();
@@ -136,19 +148,24 @@ static int ask_all(lines questions) {
     return status;
 }
 
+/* One term of the triple put to the check. What can't be read ends the program. */
+static uint32_t term_put(const char *text, size_t place) {
+    char why[448];
+    uint32_t value = 0;
+    int gap = place != 1 && strcmp(text, "?") == 0;
+    const char *wrong = field_value(text, strlen(text), place, 3, &value);
+    if (!wrong) return value;
+    snprintf(why, sizeof why, "%s%s", wrong, gap ? NAMED : "");
+    fail(why, FIELD_NAMES[place]);
+}
+
 static int check(const char *name, char **triple) {
     uint32_t fact[3];
-    for (size_t i = 0; i < 3; i++) {
-        const char *wrong = field_value(triple[i], strlen(triple[i]), i, 3, &fact[i]);
-        if (wrong) fail(wrong, FIELD_NAMES[i]);
-    }
+    for (size_t i = 0; i < 3; i++) fact[i] = term_put(triple[i], i);
     size_t len = load(name, derivation, sizeof derivation);
     uint64_t result = factbox_check(table, table_len, fact[0], fact[1], fact[2], derivation, len);
     unsigned count = factbox_count(result);
-    if (factbox_number(result) != FACTBOX_ACCEPTED) {
-        show_refusal(result, fact_words(fact), fact_fault(factbox_number(result), fact));
-        return REFUSED;
-    }
+    if (factbox_number(result) != FACTBOX_ACCEPTED) return refuse_derivation(result, fact);
     answer("ACCEPTED", GREEN, fact_words(fact));
     printf("%u table line%s\n", count, plural(count));
     show_derivation(derivation, len / FACTBOX_DERIVATION_LINE);
@@ -172,7 +189,7 @@ static int try_table(const char *name) {
 
 int main(int argc, char **argv) {
     int checking = argc > 1 && strcmp(argv[1], "-c") == 0;
-    if (checking ? argc != 7 : argc != 2 && argc != 3) {
+    if (asks_for_help(argc, argv) || (checking ? argc != 7 : argc != 2 && argc != 3)) {
         fputs("usage: screen TABLE [QUESTIONS]\n       screen -c TABLE DERIVATION SUBJECT PREDICATE OBJECT\n", stderr);
         return FAILED;
     }

@@ -159,8 +159,8 @@ static void put_out(const char *name, size_t len) {
 
 int main(int argc, char **argv) {
     const char *out = NULL;
-    int reverse = 0, wrong = 0;
-    for (int option; (option = getopt(argc, argv, "wo:")) != -1;) {
+    int reverse = 0, wrong = asks_for_help(argc, argv);
+    for (int option; !wrong && (option = getopt(argc, argv, "wo:")) != -1;) {
         if (option == 'w') reverse = 1;
         else if (option == 'o') out = optarg;
         else wrong = 1;

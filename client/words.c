@@ -33,6 +33,10 @@ static const char *const REFUSALS[] = {
     "end: the last line is not the fact put",
 };
 
+int asks_for_help(int argc, char **argv) {
+    return argc > 1 && (strcmp(argv[1], "-h") == 0 || strcmp(argv[1], "--help") == 0);
+}
+
 void fail(const char *what, const char *name) {
     fprintf(stderr, "%s: %s: %s\n", PROGRAM, name, what);
     exit(2);
@@ -55,6 +59,10 @@ const char *refusal_words(unsigned number) {
     return number < sizeof REFUSALS / sizeof *REFUSALS ? REFUSALS[number] : "";
 }
 
+const char *question_refusal(unsigned number) {
+    return number == FACTBOX_BLANK ? "blank: a gap (? or 60000 to 65535) where none may stand" : refusal_words(number);
+}
+
 int is_blank(uint32_t term) { return term >= BLANK_FIRST && term <= TERM_LAST; }
 
 /* Why a number in this field earns this refusal; NULL if it does not. */
@@ -62,7 +70,10 @@ static const char *number_fault(unsigned number, size_t field, uint32_t value) {
     int vocabulary = value >= 1 && value <= VOCABULARY_LAST, literal = value >= LITERAL_FIRST && value < BLANK_FIRST;
     switch (number) {
     case FACTBOX_TERM: return value == 0 ? "is no term" : value > TERM_LAST ? "is above 65535" : NULL;
-    case FACTBOX_BLANK: return is_blank(value) ? "is a blank node (60000 to 65535), which only a question may have" : NULL;
+    case FACTBOX_BLANK:
+        if (!is_blank(value)) return NULL;
+        return field == 1 ? "is a blank node (60000 to 65535), which can't be a predicate"
+                          : "is a blank node (60000 to 65535), which only a question may have";
     default:
         if (field == 1) return literal ? "is a literal (40000 to 59999): a predicate is a name or 1 to 5" : NULL;
         return vocabulary ? "is vocabulary (1 to 5), which can only be a predicate" : NULL;
@@ -80,9 +91,22 @@ const char *fact_fault(unsigned number, const uint32_t *fact) {
     return "";
 }
 
-const char *gap_fault(const uint32_t *question) {
-    if (is_blank(question[1])) return "a gap (? or 60000 to 65535) may stand as subject or object, not as predicate";
-    return "two gaps (? or 60000 to 65535): a question may have one, as subject or object";
+/* Why a question's gaps earn refusal 4. */
+static const char *gap_fault(const uint32_t *question) {
+    static const char *const GAPS[] = {"", "a gap", "two gaps", "three gaps"};
+    static char text[96];
+    int gaps = is_blank(question[0]) + is_blank(question[1]) + is_blank(question[2]);
+    const char *where = !is_blank(question[1]) ? "" : gaps == 1 ? " as predicate" : ", one of them as predicate";
+    snprintf(text, sizeof text, "%s%s: a question may have one, as subject or object", GAPS[gaps], where);
+    return text;
+}
+
+const char *question_fault(unsigned number, const uint32_t *question) {
+    static char text[64];
+    if (number == FACTBOX_BLANK) return gap_fault(question);
+    if (number != FACTBOX_ALLOWANCE) return fact_fault(number, question);
+    snprintf(text, sizeof text, "the allowance, %u, is above 1,024", (unsigned)question[3]);
+    return text;
 }
 
 const char *fact_words(const uint32_t *fact) {

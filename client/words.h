@@ -1,4 +1,5 @@
-/* Words that the C programs share: predicates, refusals, which field of a fact earns one, and questions with a gap. */
+/* Words that the C programs share: predicates, refusals, which field of a fact earns one, and questions with a gap; and
+ * whether help is asked for. */
 #ifndef WORDS_H
 #define WORDS_H
 
@@ -10,6 +11,9 @@ extern const char PROGRAM[];
 
 /* "subject", "predicate", "object". */
 extern const char *const FIELD_NAMES[3];
+
+/* Whether a program is asked how it is used: its first argument is -h or --help. */
+int asks_for_help(int argc, char **argv);
 
 /* Says on standard error what is wrong with the thing named, and ends the program with status 2. */
 _Noreturn void fail(const char *what, const char *name);
@@ -23,14 +27,17 @@ uint32_t predicate_number(const char *word, size_t len);
 /* What a refusal means: its word, then a sentence. */
 const char *refusal_words(unsigned number);
 
+/* The same of a question, where a blank node is a gap. */
+const char *question_refusal(unsigned number);
+
 /* Which field of the fact earns refusal 3, 4 or 5, and why. The text holds until the next call. */
 const char *fact_fault(unsigned number, const uint32_t *fact);
 
 /* Whether a term is blank: in a question, a gap. */
 int is_blank(uint32_t term);
 
-/* Why a question's gaps earn refusal 4. */
-const char *gap_fault(const uint32_t *question);
+/* Why a question, a triple and its allowance, earns refusal 3, 4, 5 or 7. The text holds until the next call. */
+const char *question_fault(unsigned number, const uint32_t *question);
 
 /* A fact in words: "10 type 12". The text holds until the next call. */
 const char *fact_words(const uint32_t *fact);
