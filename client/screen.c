@@ -106,7 +106,7 @@ static int show_yes(const uint32_t *question, unsigned count, unsigned filling) 
         return FAILED;
     }
     answer("YES", GREEN, question_words(question));
-    if (has_gap(question)) printf("X is %u, ", filling);
+    if (has_gap(question)) printf("%u, ", filling);
     printf("from %u table fact%s\n", count, plural(count));
     show_derivation(derivation, printed);
     return ANSWERED;
