@@ -14,7 +14,7 @@ use Rattle.columns.specs.Lines.{over}
 use Rattle.facts.specs.declared.Fact.{Fact}
 use Rattle.facts.specs.declared.Refusal.{Refusal}
 use Rattle.facts.specs.declared.Answer.{Answer}
-use Rattle.facts.specs.declared.Answer.the-variants.{Done, Yes, No, Long, Accepted, Refused}
+use Rattle.facts.specs.declared.Answer.the-variants.{No, Long, Refused}
 use Rattle.facts.specs.declared.Code.{Code}
 use Rattle.facts.specs.Facts.{wellFormed}
 use Rattle.facts.specs.Gaps.{Fills, AsksSame}
@@ -34,7 +34,7 @@ use Rattle.rules.proofs.Paths.{no-fewer}
 use Rattle.rules.proofs.Fewest.{fewest-least, fewest-none, fewest-refuted, least-part, path-derives}
 use Rattle.acceptance.specs.Check.{DerivationOf}
 use Rattle.question.specs.Question.{printedFor, fillingFor, answerBy, answerOf, questionAnswer, written, outputAfter, Question, question, Meaning}
-use Rattle.question.proofs.Answered.{accepted-formed, yes-input, yes-fewest, long-fewest, no-fewest, gapless-filling, same-count}
+use Rattle.question.proofs.Answered.{accepted-formed, yes-fewest, long-fewest, no-fewest, answer-unnamed, same-count}
 use Rattle.question.proofs.Alike.{answer-same, output-same}
 use Rattle.question.proofs.ByRules.{answers-by}
 use Rattle.entail.specs.Packed.{packed, unpacked}
@@ -185,30 +185,8 @@ other-limit p facts s f h p′ limit e s′ =
 
 -- ---- the term named
 
--- but a yes, no answer names a term
-only-yes : (a : Answer) → (codeOf a .number ≡ 90 → ⊥) → codeOf a .filling ≡ 0
-only-yes (Yes f x) h = absurd (h refl)
-only-yes (Done n) h = refl
-only-yes No h = refl
-only-yes (Long f) h = refl
-only-yes (Accepted n) h = refl
-only-yes (Refused r place) h = refl
-
--- nor does a yes to a question without a gap
-gapless-answer : (b : List ℕ) (t : Fact) (limit m : ℕ) (a : Answer) → questionAnswer b t limit m ≡ a → T (wellFormed t) → codeOf a .filling ≡ 0
-gapless-answer b t limit m (Yes f x) e w =
-    let s = yes-input b t limit m f x e in
-    sym (yes-fewest b t (s .0) (s .1) limit m f x e .2) ∙ gapless-filling b t (s .0) (s .1) w
-gapless-answer b t limit m (Done n) e w = refl
-gapless-answer b t limit m No e w = refl
-gapless-answer b t limit m (Long f) e w = refl
-gapless-answer b t limit m (Accepted n) e w = refl
-gapless-answer b t limit m (Refused r place) e w = refl
-
 put-unnamed : (p : Put) → (said p .number ≡ 90 → ⊥) ⊎ T (wellFormed (p .question .fact)) → said p .filling ≡ 0
-put-unnamed p =
-    ⊎-elim (λ (h : said p .number ≡ 90 → ⊥). rw (said-is p) (only-yes (answer p) (λ z. h (rw (said-is p) z))))
-    (λ (w : T (wellFormed (p .question .fact))). rw (said-is p) (gapless-answer (p .question .table) (p .question .fact) (p .question .limit) (length (p .entry)) (answer p) refl w))
+put-unnamed p = rw (said-is p) (answer-unnamed (p .question .table) (p .question .fact) (p .question .limit) (length (p .entry)) (answer p) refl)
 
 -- ---- reading and writing
 

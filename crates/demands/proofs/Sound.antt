@@ -1,6 +1,6 @@
 -- Input is sound exactly where document 01 lays down no refusal for it; and which answers name no term.
 -- Assumes nothing.
-use mathlib.Core.Path.{_≡_, refl, sym, _∙_}
+use mathlib.Core.Path.{_≡_, refl, sym, ap, _∙_}
 use mathlib.Core.Logic.{_↔_, _⊎_, inl, inr, ⊎-elim}
 use mathlib.Core.Bool.{_&&_}
 use mathlib.Core.List.{List}
@@ -158,28 +158,16 @@ check-sound b t x = (never, go (tableOf b) refl)
 
 -- ---- no term is named by check, reading and writing
 
-after-names : (c : Scan) (a : Answer) → codeOf a .filling ≡ 0 → codeOf (after c a) .filling ≡ 0
-unfolding after
-after-names (Passes n) a e = e
-after-names (Stops r place) a e = refl
-
-end-names : (t : Fact) (x : List ℕ) (n : ℕ) → codeOf (endAnswer t x n) .filling ≡ 0
-unfolding endAnswer
-end-names t x n = by-cases (same (lineAt x (n - 1) .fact) t) (λ e. rw e) (λ e. rw e)
-
-lines-name : (facts : List Fact) (t : Fact) (x : List ℕ) → codeOf (derivationAnswer facts t x) .filling ≡ 0
-unfolding derivationAnswer linesAnswer
-lines-name facts t x =
-    let n = length x / 31 in
-    by-cases (ltb 0 (length x) && sized 31 63457 (length x))
-    (λ e. rw e (after-names (scan (formVerdict x) 0 n) _ (after-names (scan (stepVerdict facts x) 0 n) _ (end-names t x n)))) (λ e. rw e)
+verdict-names : (a : Answer) → Verdicts a → codeOf a .filling ≡ 0
+verdict-names a (inl (n, e)) = ap (λ (b : Answer). codeOf b .filling) e
+verdict-names a (inr (r, place, e)) = ap (λ (b : Answer). codeOf b .filling) e
 
 pub check-names : (b : List ℕ) (t : Fact) (x : List ℕ) → codeOf (checkAnswer b t x) .filling ≡ 0
 unfolding checkAnswer tableAnswer factAnswer
 check-names b t x = go (tableOf b)
   where
     fact-names : (facts : List Fact) (v : Verdict) → codeOf (factAnswer v (derivationAnswer facts t x)) .filling ≡ 0
-    fact-names facts Sound = lines-name facts t x
+    fact-names facts Sound = verdict-names (derivationAnswer facts t x) (derivation-verdict facts t x)
     fact-names facts (Faulty r) = refl
 
     go : (u : Table) → codeOf (tableAnswer u t x) .filling ≡ 0

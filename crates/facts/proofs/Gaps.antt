@@ -17,16 +17,23 @@ use Rattle.facts.specs.Gaps.{isGap, SameTerm, AsksSame, Fills, Askable, 
 use Rattle.facts.proofs.Terms.{by-cases, none-of, node-kinds, predicate-kinds}
 use Rattle.facts.proofs.Facts.{fact-eq, parts, whole, terms-within, passed}
 
--- a node, and a predicate, is no gap
-pub node-whole : (n : ℕ) → T (isNode n) → isGap n ≡ false
+-- a node is a term, no gap and no vocabulary
+node-says : (n : ℕ) → T (isNode n) → (isNoTerm (kindOf n) ≡ false) × (isGap n ≡ false) × (isVocabulary (kindOf n) ≡ false)
 unfolding isNode isGap
-node-whole n t = none-of (isNoTerm (kindOf n)) (isBlank (kindOf n)) (isVocabulary (kindOf n)) (rw (node-kinds (kindOf n)) at t) .1
+node-says n t = none-of (isNoTerm (kindOf n)) (isBlank (kindOf n)) (isVocabulary (kindOf n)) (rw (node-kinds (kindOf n)) at t)
+
+pub node-whole : (n : ℕ) → T (isNode n) → isGap n ≡ false
+node-whole n t = node-says n t .1
+
+-- a predicate is a term, no gap and no literal
+predicate-says : (n : ℕ) → T (isPredicate n) → (isNoTerm (kindOf n) ≡ false) × (isGap n ≡ false) × (isLiteral (kindOf n) ≡ false)
+unfolding isPredicate isGap
+predicate-says n t = none-of (isNoTerm (kindOf n)) (isBlank (kindOf n)) (isLiteral (kindOf n)) (rw (predicate-kinds (kindOf n)) at t)
 
 pub predicate-whole : (n : ℕ) → T (isPredicate n) → isGap n ≡ false
-unfolding isPredicate isGap
-predicate-whole n t = none-of (isNoTerm (kindOf n)) (isBlank (kindOf n)) (isLiteral (kindOf n)) (rw (predicate-kinds (kindOf n)) at t) .1
+predicate-whole n t = predicate-says n t .1
 
--- a node is what is a term, no gap and no vocabulary
+-- and what is so is one
 node-is : (n : ℕ) → isNoTerm (kindOf n) ≡ false → isGap n ≡ false → isVocabulary (kindOf n) ≡ false → T (isNode n)
 unfolding isNode isGap
 node-is n a b c = rw (node-kinds (kindOf n), a, b, c) tt
@@ -49,12 +56,7 @@ unfolding isGap
 gap-kind n e = blank-kind (kindOf n) e
 
 node-kind : (n : ℕ) → T (isNode n) → (isNoTerm (kindOf n) ≡ false) × (isVocabulary (kindOf n) ≡ false)
-unfolding isNode
-node-kind n t = let x = none-of (isNoTerm (kindOf n)) (isBlank (kindOf n)) (isVocabulary (kindOf n)) (rw (node-kinds (kindOf n)) at t) in (x .0, x .2)
-
-predicate-kind : (n : ℕ) → T (isPredicate n) → (isNoTerm (kindOf n) ≡ false) × (isLiteral (kindOf n) ≡ false)
-unfolding isPredicate
-predicate-kind n t = let x = none-of (isNoTerm (kindOf n)) (isBlank (kindOf n)) (isLiteral (kindOf n)) (rw (predicate-kinds (kindOf n)) at t) in (x .0, x .2)
+node-kind n t = let x = node-says n t in (x .0, x .2)
 
 -- ---- what may be asked
 
@@ -62,7 +64,7 @@ predicate-kind n t = let x = none-of (isNoTerm (kindOf n)) (isBlank (kindOf n)) 
 tests-pass : (t : Fact) → T (isPredicate (t .predicate)) → (isNoTerm (kindOf (t .subject)) ≡ false) × (isVocabulary (kindOf (t .subject)) ≡ false)
     → (isNoTerm (kindOf (t .object)) ≡ false) × (isVocabulary (kindOf (t .object)) ≡ false) → isGap (t .subject) && isGap (t .object) ≡ false → questionFault t ≡ Sound
 unfolding questionFault
-tests-pass t p s o g = let k = predicate-kind (t .predicate) p in rw (s .0, k .0, o .0, predicate-whole (t .predicate) p, g, s .1, o .1, k .1)
+tests-pass t p s o g = let k = predicate-says (t .predicate) p in rw (s .0, k .0, o .0, k .1, g, s .1, o .1, k .2)
 
 and-false : (a b : Bool) → b ≡ false → a && b ≡ false
 and-false true b e = e

@@ -226,6 +226,33 @@ module _ (table : List ℕ) (t : Fact) (facts : List Fact) (is : tableOf table �
         let n : length (printedFor facts t) ≡ needed f = ap length (p .bytes) ∙ derivation-length (p .derivation) ∙ ap (λ (k : ℕ). 31 * k) (omega (arith, p .lines)) in
         (n, λ limit h. omega (arith, n))
 
+-- a yes comes of an accepted table, of what may be asked, a limit of at most 1,024, and the output that it asks for
+pub yes-input : (table : List ℕ) (t : Fact) (limit size f x : ℕ) → questionAnswer table t limit size ≡ Yes f x
+    → (facts : List Fact) × (tableOf table ≡ accepted facts) × Askable t × (limit ≤ 1024) × (needed limit ≤ size)
+unfolding questionAnswer
+yes-input table t limit size f x e = go (tableOf table) refl e
+  where
+    go : (u : Table) → tableOf table ≡ u → answerFrom u t limit size ≡ Yes f x
+        → (facts : List Fact) × (tableOf table ≡ accepted facts) × Askable t × (limit ≤ 1024) × (needed limit ≤ size)
+    go (refused r place) z y = unfold answerFrom in (let k : _≡_ {A = ℕ} 0 1 = cc in absurd (omega arith))
+    go (accepted facts) z y =
+        let s = unless-sound (asked t limit size) (answerOf facts t limit) (Yes f x) (unfold answerFrom in y) (λ r p w. let k : _≡_ {A = ℕ} 0 1 = cc in omega arith) in
+        let l = asked-sound t limit size (s .0) in
+        (facts, z, l .0, l .1, l .2)
+
+-- no other answer names a term, and none to a question without a gap
+pub answer-unnamed : (table : List ℕ) (t : Fact) (limit size : ℕ) (a : Answer) → questionAnswer table t limit size ≡ a
+    → (codeOf a .number ≡ 90 → ⊥) ⊎ T (wellFormed t) → codeOf a .filling ≡ 0
+answer-unnamed table t limit size (Yes f x) e (inl n) = absurd (n refl)
+answer-unnamed table t limit size (Yes f x) e (inr w) =
+    let s = yes-input table t limit size f x e in
+    sym (yes-fewest table t (s .0) (s .1) limit size f x e .2) ∙ gapless-filling table t (s .0) (s .1) w
+answer-unnamed table t limit size (Long f) e h = refl
+answer-unnamed table t limit size No e h = refl
+answer-unnamed table t limit size (Done n) e h = refl
+answer-unnamed table t limit size (Accepted n) e h = refl
+answer-unnamed table t limit size (Refused r place) e h = refl
+
 -- ---- the contract
 
 -- what the answers mean of which the numbers are given
@@ -253,16 +280,7 @@ module _ (q : Question) (entry exit : List ℕ) (a : Answer) (g : Answered q ent
   given-filling f x y = let z = given-yes f x y in rw (← z .2) (fewest-filled (q .table) (q .fact) facts is (z .3) f (z .0))
 
   given-unnamed : (codeOf a .number ≡ 90 → ⊥) ⊎ T (wellFormed (q .fact)) → codeOf a .filling ≡ 0
-  given-unnamed = go a refl
-    where
-      go : (b : Answer) → a ≡ b → (codeOf b .number ≡ 90 → ⊥) ⊎ T (wellFormed (q .fact)) → codeOf b .filling ≡ 0
-      go (Yes f x) e (inl n) = absurd (n refl)
-      go (Yes f x) e (inr w) = sym (yes-fewest (q .table) (q .fact) facts is (q .limit) (length entry) f x (given (Yes f x) e) .2) ∙ gapless-filling (q .table) (q .fact) facts is w
-      go (Long f) e h = refl
-      go No e h = refl
-      go (Done n) e h = refl
-      go (Accepted n) e h = refl
-      go (Refused r place) e h = refl
+  given-unnamed = answer-unnamed (q .table) (q .fact) (q .limit) (length entry) a (sym (g .answer))
 
   given-printed : (f x : ℕ) → YesWith (codeOf a) f x
       → (f ≤ q .limit) × (exit ≡ over (printedFor facts (q .fact)) entry) × Prints facts (filledBy (q .fact) x) f (printedFor facts (q .fact))
@@ -339,20 +357,6 @@ module _ (table : List ℕ) (t : Fact) (limit : ℕ) (entry : List ℕ) where
         → Said (question table t limit) entry exit r
     unfolding questionAnswer answerFrom outputAfter unless printedFrom
     answered-settled exit r e a o = said (question table t limit) entry exit r (record { answer = rw (is, e) a; output = o ∙ rw (is, e, a) })
-
--- a yes comes of an accepted table, of what may be asked, a limit of at most 1,024, and the output that it asks for
-pub yes-input : (table : List ℕ) (t : Fact) (limit size f x : ℕ) → questionAnswer table t limit size ≡ Yes f x
-    → (facts : List Fact) × (tableOf table ≡ accepted facts) × Askable t × (limit ≤ 1024) × (needed limit ≤ size)
-unfolding questionAnswer
-yes-input table t limit size f x e = go (tableOf table) refl e
-  where
-    go : (u : Table) → tableOf table ≡ u → answerFrom u t limit size ≡ Yes f x
-        → (facts : List Fact) × (tableOf table ≡ accepted facts) × Askable t × (limit ≤ 1024) × (needed limit ≤ size)
-    go (refused r place) z y = unfold answerFrom in (let k : _≡_ {A = ℕ} 0 1 = cc in absurd (omega arith))
-    go (accepted facts) z y =
-        let s = unless-sound (asked t limit size) (answerOf facts t limit) (Yes f x) (unfold answerFrom in y) (λ r p w. let k : _≡_ {A = ℕ} 0 1 = cc in omega arith) in
-        let l = asked-sound t limit size (s .0) in
-        (facts, z, l .0, l .1, l .2)
 
 -- the row that an accepted table leaves: its facts, ascending
 module _ (table : List ℕ) (facts : List Fact) (is : tableOf table ≡ accepted facts) (row old : List ℕ) (put : row ≡ over (rowOf (loaded table)) old) where

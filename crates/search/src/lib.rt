@@ -1,5 +1,6 @@
-// The question (document 01, "The question"; document 02, Point 1): whether a fact, or one that fills a gap, follows from a table, from
-// how few of its facts, and a derivation with exactly that many. The search is breadth first over the table's facts, in a row of three numbers a fact.
+// The question (document 01, "The question"; document 02, Point 1): whether a fact, or one that fills a gap, follows from a
+// table, from how few of its facts, and a derivation with exactly that many. The search is breadth first over the table's
+// facts, in a row of three numbers a fact.
 use facts::Answer;
 use facts::Fact;
 use facts::Verdict;

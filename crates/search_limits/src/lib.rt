@@ -1,5 +1,5 @@
-// Part of the question: the output that a limit asks for, and what a question to an accepted table earns (document 01, "The question" and the
-// order of refusals).
+// Part of the question: the output that a limit asks for, and what a question to an accepted table earns (document 01, "The
+// question" and the order of refusals).
 use derivation_lines::LINE_BYTES;
 use facts::Fact;
 use facts::Refusal;
