@@ -15,15 +15,16 @@ use Rattle.columns.proofs.Lines.{line-read}
 use Rattle.facts.specs.declared.Fact.{Fact}
 use Rattle.facts.specs.declared.Code.{Code}
 use Rattle.facts.specs.declared.Refusal.{Refusal}
-use Rattle.facts.specs.declared.Refusal.the-variants.{Size, Column, Term, Blank, Part, Order, Allowance, Short, Form, Step, End}
+use Rattle.facts.specs.declared.Refusal.the-variants.{Size, Column, Term, Blank, Part, Order, Allowance, Short, Form, Step, End, Class}
 use Rattle.facts.specs.declared.Verdict.{Verdict}
 use Rattle.facts.specs.declared.Verdict.the-variants.{Sound, Faulty}
 use Rattle.facts.specs.declared.Answer.{Answer}
 use Rattle.facts.specs.declared.Answer.the-variants.{Refused}
-use Rattle.facts.specs.Facts.{hasNoTerm, misplaced, orElse}
+use Rattle.facts.specs.Facts.{hasNoTerm, misplaced, textAsClass, orElse}
 use Rattle.facts.specs.Gaps.{blankRefused, questionFault}
 use Rattle.facts.specs.Answers.{codeOf, numberOf}
 use Rattle.facts.proofs.Terms.{by-cases}
+use Rattle.facts.proofs.Codes.{number-within}
 use Rattle.table.specs.Scans.{earns}
 use Rattle.table.specs.Tables.{Table, accepted, refused, lineFact, lineVerdict, sized, tableOf}
 use Rattle.table.proofs.Rows.{accepted-size}
@@ -43,56 +44,61 @@ record Plain (c : Code) : Type 0 where
 
 -- ---- refusals
 
--- a refusal that a line can earn
-earned : (laid : Bool) (at : ℕ → Fact) (i : ℕ) (r : Refusal) → earns laid at i r ≡ true → numberOf r ≤ 6
-unfolding earns
-earned laid at i Column e = omega arith
-earned laid at i Term e = omega arith
-earned laid at i Blank e = omega arith
-earned laid at i Part e = omega arith
-earned laid at i Order e = omega arith
-earned laid at i Size e = omega arith
-earned laid at i Allowance e = let z : _≡_ {A = ℕ} 0 1 = cc in absurd (omega arith)
-earned laid at i Short e = let z : _≡_ {A = ℕ} 0 1 = cc in absurd (omega arith)
-earned laid at i Form e = let z : _≡_ {A = ℕ} 0 1 = cc in absurd (omega arith)
-earned laid at i Step e = let z : _≡_ {A = ℕ} 0 1 = cc in absurd (omega arith)
-earned laid at i End e = let z : _≡_ {A = ℕ} 0 1 = cc in absurd (omega arith)
+abbrev NotShort : Refusal → Type 0
+NotShort r = numberOf r ≡ 8 → ⊥
 
--- a table's refusal is one of 1 to 6
-table-number : (b : List ℕ) (r : Refusal) (place : ℕ) → tableOf b ≡ refused r place → numberOf r ≤ 6
+-- a line does not earn 8
+earned : (laid : Bool) (at : ℕ → Fact) (i : ℕ) (r : Refusal) → earns laid at i r ≡ true → NotShort r
+unfolding earns
+earned laid at i Column e = λ z. omega arith
+earned laid at i Term e = λ z. omega arith
+earned laid at i Blank e = λ z. omega arith
+earned laid at i Part e = λ z. omega arith
+earned laid at i Order e = λ z. omega arith
+earned laid at i Size e = λ z. omega arith
+earned laid at i Allowance e = λ z. omega arith
+earned laid at i Form e = λ z. omega arith
+earned laid at i Step e = λ z. omega arith
+earned laid at i End e = λ z. omega arith
+earned laid at i Class e = λ z. omega arith
+earned laid at i Short e = let z : _≡_ {A = ℕ} 0 1 = cc in absurd (omega arith)
+
+-- nor does a table
+table-number : (b : List ℕ) (r : Refusal) (place : ℕ) → tableOf b ≡ refused r place → NotShort r
 table-number b r place e =
-    ⊎-elim (λ (p : (sized 16 16384 (length b) ≡ false) × (r ≡ Size) × (place ≡ 0)). rw (p .1) (omega arith))
+    ⊎-elim (λ (p : (sized 16 16384 (length b) ≡ false) × (r ≡ Size) × (place ≡ 0)). rw (p .1) (λ z. omega arith))
     (λ (p : (sized 16 16384 (length b) ≡ true) × Stopped (lineVerdict b) (length b / 16) r place).
     let s = p .1 in earned _ (lineFact b) (s .line) r (line-refused b (s .line) r .0 (s .refuses) .here))
     (tableOf-refused b r place .0 e)
 
--- the triple's own refusals are 3, 4 and 5
-fault-number : (t : Fact) (r : Refusal) → questionFault t ≡ Faulty r → numberOf r ≤ 5
+-- nor the triple
+fault-number : (t : Fact) (r : Refusal) → questionFault t ≡ Faulty r → NotShort r
 unfolding questionFault
 fault-number t r e =
-    by-cases (hasNoTerm t) (λ a. said Term (rw a at e) (omega arith))
-    (λ a. by-cases (blankRefused t) (λ b. said Blank (rw (a, b) at e) (omega arith))
-    (λ b. by-cases (misplaced t) (λ c. said Part (rw (a, b, c) at e) (omega arith))
-    (λ c. let x : Sound ≡ Faulty r = rw (a, b, c) at e in let z : _≡_ {A = ℕ} 0 1 = cc in absurd (omega arith))))
+    by-cases (hasNoTerm t) (λ a. said Term (rw a at e) (λ z. omega arith))
+    (λ a. by-cases (blankRefused t) (λ b. said Blank (rw (a, b) at e) (λ z. omega arith))
+    (λ b. by-cases (misplaced t) (λ c. said Part (rw (a, b, c) at e) (λ z. omega arith))
+    (λ c. by-cases (textAsClass t) (λ d. said Class (rw (a, b, c, d) at e) (λ z. omega arith))
+    (λ d. let x : Sound ≡ Faulty r = rw (a, b, c, d) at e in let z : _≡_ {A = ℕ} 0 1 = cc in absurd (omega arith)))))
   where
-    said : (q : Refusal) → Faulty q ≡ Faulty r → numberOf q ≤ 5 → numberOf r ≤ 5
+    said : (q : Refusal) → Faulty q ≡ Faulty r → NotShort q → NotShort r
     said q x h = let y : q ≡ r = cc in rw y at h
 
 -- with memory for every limit the question itself adds 7, and never 8
-asked-number : (t : Fact) (limit : ℕ) (r : Refusal) → asked t limit (needed 1024) ≡ Faulty r → (numberOf r ≤ 7)
+asked-number : (t : Fact) (limit : ℕ) (r : Refusal) → asked t limit (needed 1024) ≡ Faulty r → NotShort r
 unfolding asked orElse
 asked-number t limit r e = go (questionFault t) refl
   where
-    go : (v : Verdict) → questionFault t ≡ v → numberOf r ≤ 7
-    go (Faulty q) p = let x : Faulty q ≡ Faulty r = rw p at e in omega (arith, fault-number t r (p ∙ x))
+    go : (v : Verdict) → questionFault t ≡ v → NotShort r
+    go (Faulty q) p = let x : Faulty q ≡ Faulty r = rw p at e in fault-number t r (p ∙ x)
     go Sound p =
         by-cases (leb limit 1024)
         (λ y. let n : needed limit ≤ needed 1024 = omega (arith, leb-true limit 1024 y) in
         let x : Sound ≡ Faulty r = rw (p, y, le-leb (needed limit) (needed 1024) n) at e in let z : _≡_ {A = ℕ} 0 1 = cc in absurd (omega arith))
-        (λ y. let x : Faulty Allowance ≡ Faulty r = rw (p, y) at e in let z : Allowance ≡ r = cc in rw (sym z) (omega arith))
+        (λ y. let x : Faulty Allowance ≡ Faulty r = rw (p, y) at e in let z : Allowance ≡ r = cc in rw (sym z) (λ n. omega arith))
 
-refused-plain : (r : Refusal) (place : ℕ) → numberOf r ≤ 7 → place ≤ 1024 → Plain (codeOf (Refused r place))
-refused-plain r place n p = record { number = omega arith; place = p; count = omega arith; not-short = λ e. omega arith }
+refused-plain : (r : Refusal) (place : ℕ) → NotShort r → place ≤ 1024 → Plain (codeOf (Refused r place))
+refused-plain r place n p = record { number = omega (arith, number-within r); place = p; count = omega arith; not-short = n }
 
 -- ---- answers
 
@@ -114,7 +120,7 @@ answer-plain table t limit = go (tableOf table) refl
         unfold unless in found-plain limit (fewest facts t) (fillingFor facts t) (λ f k. omega (arith, fewest-few facts t f k, accepted-size table facts is .1))
 
     go : (T : Table) → tableOf table ≡ T → Plain (codeOf (questionAnswer table t limit (needed 1024)))
-    go (refused r place) is = rw is (refused-plain r place (omega (arith, table-number table r place is)) (table-place table r place is))
+    go (refused r place) is = rw is (refused-plain r place (table-number table r place is) (table-place table r place is))
     go (accepted facts) is = rw is (judged facts is (asked t limit (needed 1024)) refl)
 
 -- each of its three numbers has a field

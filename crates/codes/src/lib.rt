@@ -1,11 +1,11 @@
-// An answer's number, place and count (document 01's table of numbers), and the term that it names for a gap.
+// An answer's number, place and count (the papers' table of numbers), and the term that it names for a gap.
 use facts::Answer;
 use facts::Code;
 use facts::Refusal;
 ghost use mathlib.Core.Path.{_≡_};
 ghost use Rattle.facts.specs.Answers.{codeOf, numberOf, numbered, yesNaming};
 
-// Document 01's number for a refusal.
+// The papers' number for a refusal.
 fn refusal_number(r: Refusal) -> u32
     ensures { λ n. ⌜ n ≡ numberOf r ⌝ }
 {
@@ -21,6 +21,7 @@ fn refusal_number(r: Refusal) -> u32
         Refusal::Form => 9,
         Refusal::Step => 10,
         Refusal::End => 11,
+        Refusal::Class => 12,
     }
 }
 
@@ -48,7 +49,7 @@ fn yes_naming(count: u32, filling: u32) -> Code
     }
 }
 
-// Document 01's number, place and count for an answer, and the term that a yes names.
+// Number, place and count of an answer, and the term that a yes names.
 pub fn code_of(a: Answer) -> Code
     ensures { λ r. ⌜ r ≡ codeOf a ⌝ }
 {

@@ -3,4 +3,5 @@ pub mod Sound
 pub mod Program
 pub mod Demands
 pub mod Cases
+pub mod Classes
 pub mod Gapless

@@ -11,7 +11,7 @@ use lib.Dec.{T}
 use Rattle.columns.specs.Lines.{line, Below, width, numbersAt, laidOut, flat}
 use Rattle.columns.proofs.Lines.{line-read, line-written, numbers-length}
 use Rattle.facts.specs.declared.Refusal.{Refusal}
-use Rattle.facts.specs.declared.Refusal.the-variants.{Size, Column, Term, Blank, Part, Order, Allowance, Short, Form, Step, End}
+use Rattle.facts.specs.declared.Refusal.the-variants.{Form}
 use Rattle.facts.specs.declared.Answer.{Answer}
 use Rattle.facts.specs.declared.Answer.the-variants.{Done, Yes, No, Long, Accepted, Refused}
 use Rattle.facts.specs.declared.Code.{Code}
@@ -19,6 +19,7 @@ use Rattle.facts.specs.Answers.{codeOf, numberOf}
 use Rattle.facts.specs.declared.Fact.{Fact}
 use Rattle.facts.specs.Facts.{wellFormed}
 use Rattle.facts.specs.Gaps.{filledBy}
+use Rattle.facts.proofs.Codes.{number-within}
 use Rattle.table.specs.Tables.{tableOf}
 use Rattle.question.specs.Question.{needed, fillingFor, questionAnswer, outputAfter, printedFor, printedFrom, written, Question, question, Prints}
 use Rattle.question.proofs.Answered.{yes-fewest, yes-input, fewest-filled, fewest-prints}
@@ -60,19 +61,6 @@ plain No x h = refl
 plain (Long f) x h = refl
 plain (Accepted n) x h = refl
 plain (Refused r place) x h = refl
-
-not-yes : (r : Refusal) → numberOf r ≡ 90 → ⊥
-not-yes Size z = omega arith
-not-yes Column z = omega arith
-not-yes Term z = omega arith
-not-yes Blank z = omega arith
-not-yes Part z = omega arith
-not-yes Order z = omega arith
-not-yes Allowance z = omega arith
-not-yes Short z = omega arith
-not-yes Form z = omega arith
-not-yes Step z = omega arith
-not-yes End z = omega arith
 
 module _ (table : List ℕ) (q : Query) where
   -- memory for the longest derivation
@@ -126,7 +114,7 @@ module _ (table : List ℕ) (q : Query) where
   two No e = inr (other No e (λ z. omega arith))
   two (Long f) e = inr (other (Long f) e (λ z. omega arith))
   two (Accepted n) e = inr (other (Accepted n) e (λ z. omega arith))
-  two (Refused r place) e = inr (other (Refused r place) e (λ z. not-yes r z))
+  two (Refused r place) e = inr (other (Refused r place) e (λ z. omega (arith, number-within r)))
 
   reply : Reply table q (replyTo table q)
   unfolding replyTo codeLine

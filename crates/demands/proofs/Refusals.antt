@@ -2,25 +2,27 @@
 -- Assumes nothing.
 use mathlib.Core.Path.{_≡_, refl, sym, _∙_}
 use mathlib.Core.Logic.{_↔_, _⊎_, inl, inr, ⊎-elim}
-use mathlib.Core.Bool.{Bool, true, false, cond, _&&_}
+use mathlib.Core.Bool.{Bool, true, false, cond, _&&_, _||_, true≢false}
 use mathlib.Core.Option.{Option, none, some}
-use mathlib.Core.List.{List, [], _∷_}
+use mathlib.Core.List.{List, [], _∷_, List·Memᴰ·head, List·Memᴰ·tail, List·Memᴰ·not-nil, Memᴰ·append-left, Memᴰ·append-right, List·Memᴰ·append-cases, List·Memᴰ·eq-of-singleton}
 use Prim.Native.Nat.{ℕ, suc, _+_, _-_, _*_, _/_, _<_}
 use native.Mathlib.Omega.{arith}
 use native.Mathlib.Nat.{zero-add}
 use lib.ListN.{length}
-use lib.Dec.{T, leb, ltb}
+use lib.Dec.{T, leb, ltb, eqb}
+use mir.Facts.{and-yes, or-yes, eqb-yes}
 use borrow.Author.Tests.{le-leb, lt-leb, leb-true, leb-false, lt-ltb, ltb-true}
 use Rattle.columns.specs.Lines.{laidOut}
 use Rattle.columns.proofs.Fields.{both}
 use Rattle.facts.specs.declared.Fact.{Fact}
 use Rattle.facts.specs.declared.Refusal.{Refusal}
-use Rattle.facts.specs.declared.Refusal.the-variants.{Size, Term, Blank, Part, Allowance, Short, Form, Step, End}
+use Rattle.facts.specs.declared.Refusal.the-variants.{Size, Term, Blank, Part, Class, Allowance, Short, Form, Step, End}
 use Rattle.facts.specs.declared.Verdict.{Verdict}
 use Rattle.facts.specs.declared.Verdict.the-variants.{Sound, Faulty}
 use Rattle.facts.specs.declared.Answer.{Answer}
 use Rattle.facts.specs.declared.Answer.the-variants.{Done, Yes, Long, Accepted, Refused}
-use Rattle.facts.specs.Facts.{wellFormed, hasNoTerm, hasBlank, misplaced, faultOf, orElse}
+use Rattle.facts.specs.Terms.{kindOf, isLiteral, sc, sp, dom, range, type}
+use Rattle.facts.specs.Facts.{namedSubject, namedObject, wellFormed, hasNoTerm, hasBlank, misplaced, textAsClass, faultOf, orElse}
 use Rattle.facts.proofs.Terms.{by-cases, T-of, of-T}
 use Rattle.facts.specs.Gaps.{isGap, blankRefused, questionFault}
 use Rattle.facts.proofs.Facts.{fault-none}
@@ -33,6 +35,7 @@ use Rattle.table.proofs.Rows.{row-length, bytes-length, sized-fits, sized-says}
 use Rattle.table.proofs.Lists.{scan-sound, scan-all}
 use Rattle.table.proofs.Tables.{scan-stopped, tableOf-accepted, tableOfRow-accepted, none-earned, first-earned, Stopped, Refusable, tableOf-refused, tableOfRow-refused}
 use Rattle.records.specs.Records.{settledRecords, filledRecords}
+use Rattle.rules.specs.Graph.{_∈_}
 use Rattle.rules.specs.Rules.{Rule}
 use Rattle.rules.specs.Derivations.{Justified}
 use Rattle.rules.specs.Paths.{fewest}
@@ -42,7 +45,7 @@ use Rattle.derivation.specs.Bytes.{lineAt}
 use Rattle.acceptance.specs.Check.{linesOf, formVerdict, stepVerdict, after, endAnswer, linesAnswer, derivationAnswer, factAnswer, tableAnswer, checkAnswer}
 use Rattle.question.specs.Question.{needed, asked, fillingFor, answerBy, answerOf, unless, answerFrom, questionAnswer, Question, question}
 use Rattle.demands.specs.Refusals as refusals
-use Rattle.demands.specs.Refusals.{SoundTable, SoundRow, WholeLines, LinesRefused, TableRefused, RowRefused, FactRefused, Blanks, AskedRefused, ReadRefused, WriteRefused, QuestionRefused, CheckRefused, Lines}
+use Rattle.demands.specs.Refusals.{SoundTable, SoundRow, WholeLines, LinesRefused, TableRefused, RowRefused, FactRefused, Blanks, TextAsClass, AskedRefused, ReadRefused, WriteRefused, QuestionRefused, CheckRefused, Lines}
 
 -- ---- what is sound
 
@@ -210,8 +213,8 @@ records-unchanged (accepted facts) old r place e =
 -- ---- the triple
 
 pub fact-refused : (t : Fact) (r : Refusal) → faultOf t ≡ Faulty r ↔ FactRefused t r
-unfolding faultOf hasNoTerm hasBlank misplaced earns firstEarned
-fact-refused t r = first-earned (earns true (λ i. t) 0) (Term ∷ Blank ∷ Part ∷ []) r
+unfolding faultOf hasNoTerm hasBlank misplaced textAsClass earns firstEarned
+fact-refused t r = first-earned (earns true (λ i. t) 0) (Term ∷ Blank ∷ Part ∷ Class ∷ []) r
 
 -- the triple of a question
 
@@ -230,14 +233,64 @@ blanks-say t = (
 blanks-not : (t : Fact) → (Blanks t → ⊥) → blankRefused t ≡ false
 blanks-not t h = by-cases (blankRefused t) (λ e. absurd (h (blanks-say t .0 e))) (λ e. e)
 
+blanks-none : (t : Fact) → blankRefused t ≡ false → Blanks t → ⊥
+blanks-none t e h = true≢false (sym (blanks-say t .1 h) ∙ e)
+
+-- the predicates that ask for a name as subject, and those that ask for one as object
+pub subject-says : (p : ℕ) → namedSubject p ≡ true ↔ (p ∈ sc ∷ sp ∷ dom ∷ range ∷ [])
+unfolding namedSubject
+subject-says p = (
+  λ e. ⊎-elim
+      (λ h. ⊎-elim (λ h. ⊎-elim (λ h. List·Memᴰ·head (eqb-yes h)) (λ h. List·Memᴰ·tail (List·Memᴰ·head (eqb-yes h))) (or-yes (eqb p sc) (eqb p sp) h))
+      (λ h. List·Memᴰ·tail (List·Memᴰ·tail (List·Memᴰ·head (eqb-yes h)))) (or-yes (eqb p sc || eqb p sp) (eqb p dom) h))
+      (λ h. List·Memᴰ·tail (List·Memᴰ·tail (List·Memᴰ·tail (List·Memᴰ·head (eqb-yes h))))) (or-yes (eqb p sc || eqb p sp || eqb p dom) (eqb p range) (T-of _ e)),
+  go,
+)
+  where
+    go : p ∈ sc ∷ sp ∷ dom ∷ range ∷ [] → namedSubject p ≡ true
+    go (List·Memᴰ·head e) = rw e
+    go (List·Memᴰ·tail (List·Memᴰ·head e)) = rw e
+    go (List·Memᴰ·tail (List·Memᴰ·tail (List·Memᴰ·head e))) = rw e
+    go (List·Memᴰ·tail (List·Memᴰ·tail (List·Memᴰ·tail (List·Memᴰ·head e)))) = rw e
+    go (List·Memᴰ·tail (List·Memᴰ·tail (List·Memᴰ·tail (List·Memᴰ·tail m)))) = absurd (List·Memᴰ·not-nil m)
+
+pub object-says : (p : ℕ) → namedObject p ≡ true ↔ (p ∈ sc ∷ sp ∷ dom ∷ range ∷ type ∷ [])
+unfolding namedObject
+object-says p = (
+  λ e. ⊎-elim (λ h. Memᴰ·append-left (type ∷ []) (subject-says p .0 (of-T (namedSubject p) h))) (λ h. Memᴰ·append-right (sc ∷ sp ∷ dom ∷ range ∷ []) (List·Memᴰ·head (eqb-yes h)))
+      (or-yes (namedSubject p) (eqb p type) (T-of _ e)),
+  λ m. ⊎-elim (λ i. rw (subject-says p .1 i)) (λ i. let e : p ≡ type = List·Memᴰ·eq-of-singleton i in rw e) (List·Memᴰ·append-cases (sc ∷ sp ∷ dom ∷ range ∷ []) m),
+)
+
+-- a literal where the predicate asks for a name
+pub class-says : (t : Fact) → textAsClass t ≡ true ↔ TextAsClass t
+unfolding textAsClass
+class-says t = (
+  λ e. ⊎-elim
+      (λ h. let x = and-yes (isLiteral (kindOf (t .subject))) (namedSubject (t .predicate)) h in
+      refusals.as-subject (of-T (isLiteral (kindOf (t .subject))) (x .0)) (subject-says (t .predicate) .0 (of-T (namedSubject (t .predicate)) (x .1))))
+      (λ h. let x = and-yes (isLiteral (kindOf (t .object))) (namedObject (t .predicate)) h in
+      refusals.as-object (of-T (isLiteral (kindOf (t .object))) (x .0)) (object-says (t .predicate) .0 (of-T (namedObject (t .predicate)) (x .1))))
+      (or-yes (isLiteral (kindOf (t .subject)) && namedSubject (t .predicate)) (isLiteral (kindOf (t .object)) && namedObject (t .predicate)) (T-of _ e)),
+  go,
+)
+  where
+    go : TextAsClass t → textAsClass t ≡ true
+    go (refusals.as-subject l m) = rw (l, subject-says (t .predicate) .1 m)
+    go (refusals.as-object l m) =
+        let n = object-says (t .predicate) .1 m in
+        by-cases (isLiteral (kindOf (t .subject)) && namedSubject (t .predicate)) (λ e. rw e) (λ e. rw (e, l, n))
+
 asked-refused : (t : Fact) (r : Refusal) → questionFault t ≡ Faulty r → AskedRefused t r
 unfolding questionFault
 asked-refused t r e =
     by-cases (hasNoTerm t) (λ a. said Term (rw a at e) (refusals.by-term a))
     (λ a. by-cases (blankRefused t) (λ b. said Blank (rw (a, b) at e) (refusals.by-blank a (blanks-say t .0 b)))
     (λ b. by-cases (misplaced t)
-    (λ c. said Part (rw (a, b, c) at e) (refusals.by-part a (λ h. let z : true ≡ false = sym (blanks-say t .1 h) ∙ b in let k : _≡_ {A = ℕ} 0 1 = cc in omega arith) c))
-    (λ c. let x : Sound ≡ Faulty r = rw (a, b, c) at e in let z : _≡_ {A = ℕ} 0 1 = cc in absurd (omega arith))))
+    (λ c. said Part (rw (a, b, c) at e) (refusals.by-part a (blanks-none t b) c))
+    (λ c. by-cases (textAsClass t)
+    (λ d. said Class (rw (a, b, c, d) at e) (refusals.by-class a (blanks-none t b) c (class-says t .0 d)))
+    (λ d. let x : Sound ≡ Faulty r = rw (a, b, c, d) at e in let z : _≡_ {A = ℕ} 0 1 = cc in absurd (omega arith)))))
   where
     said : (q : Refusal) → Faulty q ≡ Faulty r → AskedRefused t q → AskedRefused t r
     said q x h = let y : q ≡ r = cc in rw y at h
@@ -247,6 +300,7 @@ unfolding questionFault
 refused-asked (refusals.by-term a) = rw a
 refused-asked {t} (refusals.by-blank a b) = rw (a, blanks-say t .1 b)
 refused-asked {t} (refusals.by-part a b c) = rw (a, blanks-not t b, c)
+refused-asked {t} (refusals.by-class a b c d) = rw (a, blanks-not t b, c, class-says t .1 d)
 
 pub triple-refused : (t : Fact) (r : Refusal) → questionFault t ≡ Faulty r ↔ AskedRefused t r
 triple-refused t r = (asked-refused t r, refused-asked)

@@ -1,4 +1,4 @@
--- Which refusal documents 01 and 02 (Point 1) lay down for an input: the first that applies, in the order in which they try them; and what
+-- Which refusal documents 01 and 02 (Points 1 and 2) lay down for an input: the first that applies, in the order in which they try them; and what
 -- is sound, said of what it is. Nothing here speaks of a scan or an answer of the program. The tests of one line, and of the triple put
 -- to the check, are those of the table's `earns`; those of a question's triple are `AskedRefused`. That a line is laid out as its numbers are
 -- written is `Demand-1`, field `layout`.
@@ -12,7 +12,8 @@ use lib.Dec.{T}
 use Rattle.columns.specs.Lines.{laidOut}
 use Rattle.facts.specs.declared.Fact.{Fact}
 use Rattle.facts.specs.declared.Refusal.{Refusal}
-use Rattle.facts.specs.declared.Refusal.the-variants.{Size, Term, Blank, Part, Allowance, Short, Form, Step, End}
+use Rattle.facts.specs.declared.Refusal.the-variants.{Size, Term, Blank, Part, Class, Allowance, Short, Form, Step, End}
+use Rattle.facts.specs.Terms.{kindOf, isLiteral, sc, sp, dom, range, type}
 use Rattle.facts.specs.Facts.{wellFormed, hasNoTerm, misplaced}
 use Rattle.facts.specs.Gaps.{isGap, Askable}
 use Rattle.table.specs.Scans.{earns, tried, First}
@@ -56,8 +57,8 @@ pub record WholeLines (k size n : ℕ) : Type 0 where
   pub exact : size ≡ k * n
   pub few : n ≤ 1024
 
--- 1 with place 0; or the first line that earns any of 2 to 6, by the first of these, in that order, that it earns; lines are counted from
--- 1, and `earned i` is what line i + 1 earns
+-- 1 with place 0; or the first line that earns any of 2, 3, 4, 5, 12, 6, by the first of these, in that order (`tried`), that it earns; lines
+-- are counted from 1, and `earned i` is what line i + 1 earns
 pub data LinesRefused (k size : ℕ) (earned : ℕ → Refusal → Bool) : Refusal → ℕ → Type 0 where
   by-size : ((n : ℕ) → WholeLines k size n → ⊥) → LinesRefused k size earned Size 0
   by-line : {n i : ℕ} {r : Refusal} → WholeLines k size n → i < n → ((j : ℕ) → j < i → (q : Refusal) → q ∈ tried → earned j q ≡ false)
@@ -85,20 +86,26 @@ pub data WriteRefused (row : List ℕ) (m : ℕ) : Refusal → ℕ → Type 0 wh
 
 -- ---- question and check
 
--- the first of 3, 4, 5, in that order, that the triple put to the check earns
+-- the first of 3, 4, 5, 12, in that order, that the triple put to the check earns
 abbrev pub FactRefused : Fact → Refusal → Type 0
-FactRefused t = First (earns true (λ i. t) 0) (Term ∷ Blank ∷ Part ∷ [])
+FactRefused t = First (earns true (λ i. t) 0) (Term ∷ Blank ∷ Part ∷ Class ∷ [])
 
 -- "A blank predicate, two blanks in one triple, equal or not"
 pub data Blanks (t : Fact) : Type 0 where
   in-predicate : isGap (t .predicate) ≡ true → Blanks t
   two : isGap (t .subject) ≡ true → isGap (t .object) ≡ true → Blanks t
 
--- the first of 3, 4, 5, in that order, that the triple of a question earns: 3 and 5 as elsewhere, 4 for such blanks alone
+-- "A literal [...] as subject or object of sc, sp, dom or range, [or] as object of type"
+pub data TextAsClass (t : Fact) : Type 0 where
+  as-subject : isLiteral (kindOf (t .subject)) ≡ true → t .predicate ∈ sc ∷ sp ∷ dom ∷ range ∷ [] → TextAsClass t
+  as-object : isLiteral (kindOf (t .object)) ≡ true → t .predicate ∈ sc ∷ sp ∷ dom ∷ range ∷ type ∷ [] → TextAsClass t
+
+-- the first of 3, 4, 5, 12, in that order, that the triple of a question earns: 3, 5 and 12 as elsewhere, 4 for such blanks alone
 pub data AskedRefused (t : Fact) : Refusal → Type 0 where
   by-term : hasNoTerm t ≡ true → AskedRefused t Term
   by-blank : hasNoTerm t ≡ false → Blanks t → AskedRefused t Blank
   by-part : hasNoTerm t ≡ false → (Blanks t → ⊥) → misplaced t ≡ true → AskedRefused t Part
+  by-class : hasNoTerm t ≡ false → (Blanks t → ⊥) → misplaced t ≡ false → TextAsClass t → AskedRefused t Class
 
 -- a question: the table's, the triple's, 7 for the limit, 8 for m bytes of output
 pub data QuestionRefused (q : Question) (m : ℕ) : Refusal → ℕ → Type 0 where

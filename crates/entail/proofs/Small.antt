@@ -14,7 +14,7 @@ use Rattle.columns.proofs.Lists.{items-length}
 use Rattle.facts.specs.declared.Fact.{Fact}
 use Rattle.facts.specs.declared.Code.{Code}
 use Rattle.facts.specs.declared.Refusal.{Refusal}
-use Rattle.facts.specs.declared.Refusal.the-variants.{Size, Column, Term, Blank, Part, Order, Allowance, Short, Form, Step, End}
+use Rattle.facts.specs.declared.Refusal.the-variants.{Short, Form, End}
 use Rattle.facts.specs.declared.Verdict.{Verdict}
 use Rattle.facts.specs.declared.Verdict.the-variants.{Sound, Faulty}
 use Rattle.facts.specs.declared.Answer.{Answer}
@@ -22,6 +22,7 @@ use Rattle.facts.specs.declared.Answer.the-variants.{Refused}
 use Rattle.facts.specs.Facts.{faultOf}
 use Rattle.facts.specs.Answers.{codeOf, numberOf}
 use Rattle.facts.proofs.Terms.{by-cases}
+use Rattle.facts.proofs.Codes.{number-within}
 use Rattle.table.specs.declared.Scan.{Scan}
 use Rattle.table.specs.declared.Scan.the-variants.{Passes, Stops}
 use Rattle.table.specs.Scans.{scan}
@@ -53,21 +54,8 @@ unpack-pack c s =
     let x : packed c / 281474976710656 % 65536 ≡ c .filling = rw g (omega (arith, s .filling)) in
     λ i. record { number = n i; place = p i; count = k i; filling = x i }
 
-number-small : (r : Refusal) → numberOf r < 256
-number-small Size = omega arith
-number-small Column = omega arith
-number-small Term = omega arith
-number-small Blank = omega arith
-number-small Part = omega arith
-number-small Order = omega arith
-number-small Allowance = omega arith
-number-small Short = omega arith
-number-small Form = omega arith
-number-small Step = omega arith
-number-small End = omega arith
-
 pub refused-small : (r : Refusal) (place : ℕ) → place ≤ 2047 → Small (codeOf (Refused r place))
-refused-small r place h = record { number = number-small r; place = omega arith; count = omega arith; filling = omega arith }
+refused-small r place h = record { number = omega (arith, number-within r); place = omega arith; count = omega arith; filling = omega arith }
 
 -- ---- tables
 

@@ -3,19 +3,35 @@
 use mathlib.Core.Path.{_≡_, refl, sym, ap, _∙_}
 use mathlib.Core.Bool.{cond}
 use mathlib.Core.List.{List, [], _∷_}
-use Prim.Native.Nat.{ℕ, _-_}
+use Prim.Native.Nat.{ℕ, _-_, _≤_}
+use native.Mathlib.Omega.{arith}
 use lib.ListN.{getD}
 use lib.Dec.{eqb}
 use Rattle.facts.specs.declared.Code.{Code}
 use Rattle.facts.specs.declared.Refusal.{Refusal}
-use Rattle.facts.specs.declared.Refusal.the-variants.{Size, Column, Term, Blank, Part, Order, Allowance, Short, Form, Step, End}
+use Rattle.facts.specs.declared.Refusal.the-variants.{Size, Column, Term, Blank, Part, Order, Allowance, Short, Form, Step, End, Class}
 use Rattle.facts.specs.declared.Answer.{Answer}
 use Rattle.facts.specs.declared.Answer.the-variants.{Done, Yes, No, Long, Accepted, Refused}
-use Rattle.facts.specs.Answers.{codeOf, YesWith, LongWith, SaysNo, AcceptedWith, RefusedWith}
+use Rattle.facts.specs.Answers.{codeOf, numberOf, YesWith, LongWith, SaysNo, AcceptedWith, RefusedWith}
 
 -- the refusals in the order of their numbers
 abbrev refusals : List Refusal
-refusals = Size ∷ Column ∷ Term ∷ Blank ∷ Part ∷ Order ∷ Allowance ∷ Short ∷ Form ∷ Step ∷ End ∷ []
+refusals = Size ∷ Column ∷ Term ∷ Blank ∷ Part ∷ Order ∷ Allowance ∷ Short ∷ Form ∷ Step ∷ End ∷ Class ∷ []
+
+-- the largest number of a refusal
+pub number-within : (r : Refusal) → numberOf r ≤ 12
+number-within Size = omega arith
+number-within Column = omega arith
+number-within Term = omega arith
+number-within Blank = omega arith
+number-within Part = omega arith
+number-within Order = omega arith
+number-within Allowance = omega arith
+number-within Short = omega arith
+number-within Form = omega arith
+number-within Step = omega arith
+number-within End = omega arith
+number-within Class = omega arith
 
 -- an answer by its numbers
 abbrev answerFor : Code → Answer
@@ -43,6 +59,7 @@ answer-back (Refused Short place) = refl
 answer-back (Refused Form place) = refl
 answer-back (Refused Step place) = refl
 answer-back (Refused End place) = refl
+answer-back (Refused Class place) = refl
 
 -- answers with the same numbers are the same
 pub same-answer : (a b : Answer) → codeOf a ≡ codeOf b → a ≡ b

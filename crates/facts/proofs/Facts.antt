@@ -1,22 +1,23 @@
 -- Laws of facts: the ranges of well-formed terms, no fault exactly where well-formed, and a strict total order.
 -- Assumes nothing.
-use mathlib.Core.Path.{_≡_, sym}
-use mathlib.Core.Logic.{_↔_, _⊎_, inl, inr}
-use mathlib.Core.Bool.{Bool, true, false, not, cond, _&&_, _||_}
-use Prim.Native.Nat.{ℕ, _≤_, _<_}
+use mathlib.Core.Path.{_≡_, refl, sym, ap, _∙_}
+use mathlib.Core.Logic.{_↔_, _⊎_, inl, inr, ⊎-elim}
+use mathlib.Core.Bool.{Bool, true, false, not, cond, _&&_, _||_, true≢false}
+use Prim.Native.Nat.{ℕ, zero, suc, _≤_, _<_}
 use native.Mathlib.Omega.{arith}
 use lib.Dec.{T, leb, ltb, eqb}
-use mir.Facts.{and-yes, yes-and, ltb-yes}
+use mir.Facts.{and-yes, yes-and, or-yes, ltb-yes}
 use borrow.Author.Tests.{eqb-true, ltb-true, ltb-false, eq-eqb, ne-eqb, lt-ltb, le-ltb, le-leb, lt-leb}
 use Rattle.facts.specs.declared.Kind.{Kind}
 use Rattle.facts.specs.declared.Kind.the-variants.{NoTerm, Vocabulary, Name, Literal, BlankNode, Beyond}
 use Rattle.facts.specs.declared.Fact.{Fact}
 use Rattle.facts.specs.declared.Refusal.{Refusal}
+use Rattle.facts.specs.declared.Refusal.the-variants.{Order}
 use Rattle.facts.specs.declared.Verdict.{Verdict}
 use Rattle.facts.specs.declared.Verdict.the-variants.{Sound, Faulty}
-use Rattle.facts.specs.Terms.{kindOf, isNoTerm, isVocabulary, isName, isLiteral, isBlank}
-use Rattle.facts.specs.Facts.{isNode, isPredicate, wellFormed, hasNoTerm, hasBlank, misplaced, faultOf, before}
-use Rattle.facts.proofs.Terms.{by-cases, of-T, none-of, node-kinds, predicate-kinds, OfKind, kind-within}
+use Rattle.facts.specs.Terms.{kindOf, isNoTerm, isVocabulary, isName, isLiteral, isBlank, sc, sp, dom, range, type}
+use Rattle.facts.specs.Facts.{namedSubject, namedObject, isNode, isPredicate, wellFormed, hasNoTerm, hasBlank, misplaced, textAsClass, faultOf, orElse, orderOf, verdictOf, before}
+use Rattle.facts.proofs.Terms.{by-cases, of-T, neither, none-of, node-kinds, predicate-kinds, node-name, OfKind, kind-within, vocabulary-below}
 
 -- facts with the same three terms are the same
 pub fact-eq : (a b : Fact) → a .subject ≡ b .subject → a .predicate ≡ b .predicate → a .object ≡ b .object → a ≡ b
@@ -25,11 +26,11 @@ fact-eq a b p q r = λ i. record { subject = p i; predicate = q i; object = r i 
 -- ---- well-formed facts
 
 -- a node is 6 to 59999
-pub node-range : (n : ℕ) → leb 6 n && ltb n 60000 ≡ isNode n
+pub node-range : (n : ℕ) → leb 6 n && ltb n 60000 ≡ isNode false n
 unfolding isNode
 node-range n = go (kindOf n) (kind-within n)
   where
-    go : (k : Kind) → OfKind k n → leb 6 n && ltb n 60000 ≡ isName k || isLiteral k
+    go : (k : Kind) → OfKind k n → leb 6 n && ltb n 60000 ≡ isName k || isLiteral k && true
     go NoTerm w = rw (lt-leb 6 n (omega arith))
     go Vocabulary w = rw (lt-leb 6 n (omega arith))
     go Name w = rw (le-leb 6 n (omega arith), lt-ltb n 60000 (omega arith))
@@ -50,24 +51,180 @@ predicate-range n = go (kindOf n) (kind-within n)
     go BlankNode w = rw (lt-ltb 0 n (omega arith), le-ltb n 40000 (omega arith))
     go Beyond w = rw (lt-ltb 0 n (omega arith), le-ltb n 40000 (omega arith))
 
+-- a node is a term, no blank node, no vocabulary, and no literal where it must be a name
+pub node-says : (named : Bool) (n : ℕ) → T (isNode named n)
+    → (isNoTerm (kindOf n) ≡ false) × (isBlank (kindOf n) ≡ false) × (isVocabulary (kindOf n) ≡ false) × (isLiteral (kindOf n) && named ≡ false)
+unfolding isNode
+node-says named n t =
+    let k : Kind = kindOf n in
+    let x = none-of (isNoTerm k) (isBlank k) (isVocabulary k || isLiteral k && named) (rw (node-kinds named k) at t) in
+    let y = neither (isVocabulary k) (isLiteral k && named) (rw (x .2) tt) in
+    (x .0, x .1, y .0, y .1)
+
+-- a predicate is a term, no blank node and no literal
+pub predicate-says : (n : ℕ) → T (isPredicate n) → (isNoTerm (kindOf n) ≡ false) × (isBlank (kindOf n) ≡ false) × (isLiteral (kindOf n) ≡ false)
+unfolding isPredicate
+predicate-says n t = none-of (isNoTerm (kindOf n)) (isBlank (kindOf n)) (isLiteral (kindOf n)) (rw (predicate-kinds (kindOf n)) at t)
+
+-- and what is so is one
+pub node-is : (named : Bool) (n : ℕ) → isNoTerm (kindOf n) ≡ false → isBlank (kindOf n) ≡ false → isVocabulary (kindOf n) ≡ false → isLiteral (kindOf n) && named ≡ false
+    → T (isNode named n)
+unfolding isNode
+node-is named n a b c d = rw (node-kinds named (kindOf n), a, b, c, d) tt
+
+pub predicate-is : (n : ℕ) → isNoTerm (kindOf n) ≡ false → isBlank (kindOf n) ≡ false → isLiteral (kindOf n) ≡ false → T (isPredicate n)
+unfolding isPredicate
+predicate-is n a b c = rw (predicate-kinds (kindOf n), a, b, c) tt
+
 -- the three parts of being well-formed
-pub parts : (f : Fact) → T (wellFormed f) → T (isNode (f .subject)) × T (isPredicate (f .predicate)) × T (isNode (f .object))
+pub parts : (f : Fact) → T (wellFormed f)
+    → T (isNode (namedSubject (f .predicate)) (f .subject)) × T (isPredicate (f .predicate)) × T (isNode (namedObject (f .predicate)) (f .object))
 unfolding wellFormed
 parts f w =
-    let x = and-yes (isNode (f .subject) && isPredicate (f .predicate)) (isNode (f .object)) w in
-    let y = and-yes (isNode (f .subject)) (isPredicate (f .predicate)) (x .0) in
+    let s : Bool = isNode (namedSubject (f .predicate)) (f .subject) in
+    let x = and-yes (s && isPredicate (f .predicate)) (isNode (namedObject (f .predicate)) (f .object)) w in
+    let y = and-yes s (isPredicate (f .predicate)) (x .0) in
     (y .0, y .1, x .1)
 
-pub whole : (f : Fact) → T (isNode (f .subject)) → T (isPredicate (f .predicate)) → T (isNode (f .object)) → T (wellFormed f)
+pub whole : (f : Fact) → T (isNode (namedSubject (f .predicate)) (f .subject)) → T (isPredicate (f .predicate)) → T (isNode (namedObject (f .predicate)) (f .object))
+    → T (wellFormed f)
 unfolding wellFormed
-whole f s p o = yes-and (isNode (f .subject) && isPredicate (f .predicate)) _ (yes-and (isNode (f .subject)) _ s p) o
+whole f s p o =
+    let x : Bool = isNode (namedSubject (f .predicate)) (f .subject) in
+    yes-and (x && isPredicate (f .predicate)) _ (yes-and x _ s p) o
+
+-- ---- by the predicate
+
+-- a name may stand on each side of every predicate
+pub name-stands : (named : Bool) (n : ℕ) → isName (kindOf n) ≡ true → T (isNode named n)
+unfolding isNode
+name-stands named n e = rw e tt
+
+-- where the predicate asks for names, subject and object are names
+pub subject-name : (f : Fact) → T (wellFormed f) → namedSubject (f .predicate) ≡ true → isName (kindOf (f .subject)) ≡ true
+unfolding isNode
+subject-name f w e = node-name (kindOf (f .subject)) (rw e at (parts f w .0))
+
+pub object-name : (f : Fact) → T (wellFormed f) → namedObject (f .predicate) ≡ true → isName (kindOf (f .object)) ≡ true
+unfolding isNode
+object-name f w e = node-name (kindOf (f .object)) (rw e at (parts f w .2))
+
+-- a name asks for no names
+pub name-free : (n : ℕ) → isName (kindOf n) ≡ true → (namedSubject n ≡ false) × (namedObject n ≡ false)
+unfolding namedObject kindOf
+name-free n e =
+    let x = not-word sc refl in let y = not-word sp refl in let z = not-word dom refl in let u = not-word range refl in
+    (rw (x, y, z, u), rw (x, y, z, u, not-word type refl))
+  where
+    not-word : (v : ℕ) → isName (kindOf v) ≡ false → eqb n v ≡ false
+    not-word v f = by-cases (eqb n v) (λ g. absurd (true≢false (sym e ∙ ap (λ (x : ℕ). isName (kindOf x)) (eqb-true n v g) ∙ f))) (λ g. g)
+
+-- every other predicate asks for a name as object
+pub word-object : (n : ℕ) → T (isPredicate n) → isName (kindOf n) ≡ false → namedObject n ≡ true
+unfolding isPredicate namedObject
+word-object n p e = ⊎-elim (λ h. absurd (true≢false (sym (of-T (isName (kindOf n)) h) ∙ e))) (λ h. go n (vocabulary-below n h) h) (or-yes (isName (kindOf n)) (isVocabulary (kindOf n)) p)
+  where
+    go : (m : ℕ) → m < 6 → T (isVocabulary (kindOf m)) → namedObject m ≡ true
+    go zero l t = absurd t
+    go (suc zero) l t = refl
+    go (suc (suc zero)) l t = refl
+    go (suc (suc (suc zero))) l t = refl
+    go (suc (suc (suc (suc zero)))) l t = refl
+    go (suc (suc (suc (suc (suc zero))))) l t = refl
+    go (suc (suc (suc (suc (suc (suc k)))))) l t = absurd (omega arith)
+
+and-none : (b : Bool) → b && false ≡ false
+and-none true = refl
+and-none false = refl
+
+and-all : (b : Bool) → b && true ≡ b
+and-all true = refl
+and-all false = refl
+
+turned : (a b : Bool) → a && true && b ≡ b && true && (a && true)
+turned true true = refl
+turned true false = refl
+turned false true = refl
+turned false false = refl
+
+barred : (a b c d e : Bool) → b && d ≡ false → c && false && e ≡ a && b && (c && d)
+barred false b true d e h = refl
+barred false b false d e h = refl
+barred true false true d e h = refl
+barred true false false d e h = refl
+barred true true c false e h = rw (and-none c)
+barred true true c true e h = absurd (true≢false h)
+
+formed-is : (f : Fact) → wellFormed f ≡ isNode (namedSubject (f .predicate)) (f .subject) && isPredicate (f .predicate) && isNode (namedObject (f .predicate)) (f .object)
+unfolding wellFormed
+formed-is f = refl
+
+-- a node that is no name is a literal, where it need not be one
+text-node : (named : Bool) (n : ℕ) → isName (kindOf n) ≡ false → isNode named n ≡ isLiteral (kindOf n) && not named
+unfolding isNode
+text-node named n e = rw e
+
+name-predicate : (n : ℕ) → isName (kindOf n) ≡ true → isPredicate n ≡ true
+unfolding isPredicate
+name-predicate n e = rw e
+
+-- a literal as subject leaves type and the names
+free-subject : (p : ℕ) → not (namedSubject p) && isPredicate p ≡ isName (kindOf p) || eqb p type
+unfolding isPredicate namedSubject kindOf
+free-subject p =
+    by-cases (isName (kindOf p)) (λ e. rw (e, name-free p e .0))
+    (λ e. by-cases (isVocabulary (kindOf p)) (λ h. go p (vocabulary-below p (rw h tt)))
+    (λ h. by-cases (eqb p type) (λ g. absurd (true≢false (ap (λ (x : ℕ). isVocabulary (kindOf x)) (sym (eqb-true p type g)) ∙ h))) (λ g. rw (e, h, g) (and-none (not (namedSubject p))))))
+  where
+    go : (n : ℕ) → n < 6 → not (namedSubject n) && isPredicate n ≡ isName (kindOf n) || eqb n type
+    go zero l = refl
+    go (suc zero) l = refl
+    go (suc (suc zero)) l = refl
+    go (suc (suc (suc zero))) l = refl
+    go (suc (suc (suc (suc zero)))) l = refl
+    go (suc (suc (suc (suc (suc zero))))) l = refl
+    go (suc (suc (suc (suc (suc (suc k)))))) l = absurd (omega arith)
+
+-- a literal as object leaves the names
+free-object : (p : ℕ) → isPredicate p && not (namedObject p) ≡ isName (kindOf p)
+unfolding isPredicate
+free-object p =
+    by-cases (isName (kindOf p)) (λ e. rw (e, name-free p e .1))
+    (λ e. by-cases (isPredicate p) (λ q. rw (word-object p (rw q tt) e) (and-none (isPredicate p) ∙ sym e)) (λ q. rw q (sym e)))
+
+-- being well-formed, by what subject and object are
+module _ (f : Fact) where
+  -- names on both sides: any predicate
+  pub formed-names : isName (kindOf (f .object)) ≡ true → isName (kindOf (f .subject)) ≡ true → isPredicate (f .predicate) ≡ wellFormed f
+  unfolding wellFormed isNode
+  formed-names o s = rw (o, s) (sym (and-all (isPredicate (f .predicate))))
+
+  -- a literal as subject and a name as object: type, or a name
+  pub formed-literal : isName (kindOf (f .object)) ≡ true → isName (kindOf (f .subject)) ≡ false
+      → isLiteral (kindOf (f .subject)) && (isName (kindOf (f .predicate)) || eqb (f .predicate) type) ≡ wellFormed f
+  unfolding wellFormed isNode
+  formed-literal o s =
+      by-cases (isLiteral (kindOf (f .subject)))
+      (λ l. rw (o, s, l) (sym (and-all (not (namedSubject (f .predicate)) && isPredicate (f .predicate)) ∙ free-subject (f .predicate)))) (λ l. rw (o, s, l))
+
+  -- a literal as object: a name
+  pub formed-text : isName (kindOf (f .object)) ≡ false
+      → isLiteral (kindOf (f .object)) && isName (kindOf (f .predicate)) && isNode false (f .subject) ≡ wellFormed f
+  formed-text o =
+      let e = text-node (namedObject (f .predicate)) (f .object) o in
+      by-cases (isName (kindOf (f .predicate)))
+      (λ n. let x = name-free (f .predicate) n in rw (formed-is f, e, n, x .0, x .1, name-predicate (f .predicate) n) (turned (isLiteral (kindOf (f .object))) (isNode false (f .subject))))
+      (λ n. rw (formed-is f, e, n) (barred (isNode (namedSubject (f .predicate)) (f .subject)) (isPredicate (f .predicate)) (isLiteral (kindOf (f .object))) (not (namedObject (f .predicate)))
+      (isNode false (f .subject)) (free-object (f .predicate) ∙ n)))
+
+-- ---- faults
 
 -- a test that is not refused
 pub passed : (b : Bool) (r : Refusal) (v : Verdict) → cond b (Faulty r) v ≡ Sound → T (not b) × (v ≡ Sound)
 passed false r v e = (tt, e)
 passed true r v e = let z : _≡_ {A = ℕ} 0 1 = cc in absurd (omega arith)
 
--- a fact earns none of 3, 4, 5 exactly where it is well-formed
+-- a fact earns none of 3, 4, 5, 12 exactly where it is well-formed
 module _ (f : Fact) where
   abbrev s : Kind
   s = kindOf (f .subject)
@@ -79,45 +236,67 @@ module _ (f : Fact) where
   o = kindOf (f .object)
 
   sound-formed : faultOf f ≡ Sound → T (wellFormed f)
-  unfolding faultOf isNode isPredicate
+  unfolding faultOf
   sound-formed e =
       let a = passed (hasNoTerm f) _ _ e in
       let b = passed (hasBlank f) _ _ (a .1) in
       let c = passed (misplaced f) _ _ (b .1) in
+      let d = passed (textAsClass f) _ _ (c .1) in
       let x = none-of (isNoTerm s) (isNoTerm p) (isNoTerm o) (a .0) in
       let y = none-of (isBlank s) (isBlank p) (isBlank o) (b .0) in
       let z = none-of (isVocabulary s) (isVocabulary o) (isLiteral p) (c .0) in
-      whole f (rw (node-kinds s, x .0, y .0, z .0) tt) (rw (predicate-kinds p, x .1, y .1, z .2) tt) (rw (node-kinds o, x .2, y .2, z .1) tt)
+      let w = neither (isLiteral s && namedSubject (f .predicate)) (isLiteral o && namedObject (f .predicate)) (d .0) in
+      whole f (node-is _ _ (x .0) (y .0) (z .0) (w .0)) (predicate-is _ (x .1) (y .1) (z .2)) (node-is _ _ (x .2) (y .2) (z .1) (w .1))
 
   formed-sound : T (wellFormed f) → faultOf f ≡ Sound
-  unfolding faultOf isNode isPredicate
+  unfolding faultOf
   formed-sound w =
       let t = parts f w in
-      let x = none-of (isNoTerm s) (isBlank s) (isVocabulary s) (rw (node-kinds s) at (t .0)) in
-      let y = none-of (isNoTerm p) (isBlank p) (isLiteral p) (rw (predicate-kinds p) at (t .1)) in
-      let z = none-of (isNoTerm o) (isBlank o) (isVocabulary o) (rw (node-kinds o) at (t .2)) in
-      rw (x .0, y .0, z .0, x .1, y .1, z .1, x .2, z .2, y .2)
+      let x = node-says _ (f .subject) (t .0) in
+      let y = predicate-says (f .predicate) (t .1) in
+      let z = node-says _ (f .object) (t .2) in
+      rw (x .0, y .0, z .0, x .1, y .1, z .1, x .2, z .2, y .2, x .3, z .3)
 
   pub fault-none : faultOf f ≡ Sound ↔ T (wellFormed f)
   fault-none = (sound-formed, formed-sound)
 
--- a fact that is not well-formed and earns neither 3 nor 4 earns 5
-pub left-misplaced : (f : Fact) → wellFormed f ≡ false → hasNoTerm f ≡ false → hasBlank f ≡ false → misplaced f ≡ true
-unfolding faultOf
-left-misplaced f w t b = by-cases (misplaced f) (λ m. m) (λ m. absurd (rw w at (sound-formed f (rw (t, b, m)))))
+  -- a well-formed fact earns 6 or nothing
+  pub verdict-formed : (ascends : Bool) → wellFormed f ≡ true → verdictOf ascends f ≡ orderOf ascends
+  unfolding verdictOf
+  verdict-formed ascends e = rw (formed-sound (rw e tt))
+
+  -- one that is not well-formed and earns none of 3, 4, 5 earns 12
+  pub left-class : wellFormed f ≡ false → hasNoTerm f ≡ false → hasBlank f ≡ false → misplaced f ≡ false → textAsClass f ≡ true
+  unfolding faultOf
+  left-class w a b c = by-cases (textAsClass f) (λ d. d) (λ d. absurd (rw w at (sound-formed (rw (a, b, c, d)))))
+
+-- a fact by itself ascends
+pub verdict-alone : (f : Fact) → verdictOf true f ≡ faultOf f
+unfolding verdictOf orElse orderOf
+verdict-alone f = go (faultOf f)
+  where
+    go : (v : Verdict) → orElse v Sound ≡ v
+    go Sound = refl
+    go (Faulty r) = refl
 
 -- a range's end bounds what passes its test
 below : (a n b : ℕ) (t : Bool) → leb a n && ltb n b ≡ t → T t → n < b
 below a n b t e p = ltb-yes (and-yes (leb a n) (ltb n b) (rw e p) .1)
 
+-- a node that must be a name is a node, and fits 16 bits
+node-within : (named : Bool) (n : ℕ) → T (isNode named n) → n ≤ 65535
+unfolding isNode
+node-within named n t =
+    let x = node-says named n t in
+    let y = below 6 n 60000 _ (node-range n) (node-is false n (x .0) (x .1) (x .2) (and-none (isLiteral (kindOf n)))) in
+    omega arith
+
 -- the terms of a well-formed fact fit 16 bits
 pub terms-within : (f : Fact) → T (wellFormed f) → (f .subject ≤ 65535) × (f .predicate ≤ 65535) × (f .object ≤ 65535)
 terms-within f w =
     let p = parts f w in
-    let s = below 6 (f .subject) 60000 _ (node-range _) (p .0) in
     let q = below 1 (f .predicate) 40000 _ (predicate-range _) (p .1) in
-    let o = below 6 (f .object) 60000 _ (node-range _) (p .2) in
-    (omega arith, omega arith, omega arith)
+    (node-within _ _ (p .0), omega arith, node-within _ _ (p .2))
 
 -- ---- order
 

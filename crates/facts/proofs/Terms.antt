@@ -1,7 +1,7 @@
 -- Laws of tests and of the kinds of terms.
 -- Assumes nothing.
 use mathlib.Core.Path.{_≡_, refl}
-use mathlib.Core.Bool.{Bool, true, false, not, _||_}
+use mathlib.Core.Bool.{Bool, true, false, not, _&&_, _||_}
 use Prim.Native.Nat.{ℕ, _≤_, _<_}
 use native.Mathlib.Omega.{arith}
 use lib.Dec.{T, leb, ltb, eqb}
@@ -27,7 +27,11 @@ pub of-F : (b : Bool) → T (not b) → b ≡ false
 of-F true t = absurd t
 of-F false t = refl
 
--- three tests that all fail
+-- two tests, or three, that all fail
+pub neither : (a b : Bool) → T (not (a || b)) → (a ≡ false) × (b ≡ false)
+neither false b t = (refl, of-F b t)
+neither true b t = absurd t
+
 pub none-of : (a b c : Bool) → T (not (a || b || c)) → (a ≡ false) × (b ≡ false) × (c ≡ false)
 none-of false false c t = (refl, refl, of-F c t)
 none-of false true c t = absurd t
@@ -35,15 +39,16 @@ none-of true b c t = absurd t
 
 -- ---- kinds
 
--- a node is what is neither no term nor a blank node nor vocabulary, and a predicate likewise without the literals
-pub node-kinds : (k : Kind) → isName k || isLiteral k ≡ not (isNoTerm k || isBlank k || isVocabulary k)
-node-kinds NoTerm = refl
-node-kinds Vocabulary = refl
-node-kinds Name = refl
-node-kinds Literal = refl
-node-kinds BlankNode = refl
-node-kinds Beyond = refl
+-- a node is what is neither no term nor a blank node nor vocabulary, nor a literal where it must be a name
+pub node-kinds : (named : Bool) (k : Kind) → isName k || isLiteral k && not named ≡ not (isNoTerm k || isBlank k || (isVocabulary k || isLiteral k && named))
+node-kinds named NoTerm = refl
+node-kinds named Vocabulary = refl
+node-kinds named Name = refl
+node-kinds named Literal = refl
+node-kinds named BlankNode = refl
+node-kinds named Beyond = refl
 
+-- a predicate is what is neither no term nor a blank node nor a literal
 pub predicate-kinds : (k : Kind) → isName k || isVocabulary k ≡ not (isNoTerm k || isBlank k || isLiteral k)
 predicate-kinds NoTerm = refl
 predicate-kinds Vocabulary = refl
@@ -52,14 +57,14 @@ predicate-kinds Literal = refl
 predicate-kinds BlankNode = refl
 predicate-kinds Beyond = refl
 
--- what may be both a node and a predicate is a name
-pub node-predicate : (k : Kind) → T (isName k || isLiteral k) → T (isName k || isVocabulary k) → isName k ≡ true
-node-predicate NoTerm a b = absurd a
-node-predicate Vocabulary a b = absurd a
-node-predicate Name a b = refl
-node-predicate Literal a b = absurd b
-node-predicate BlankNode a b = absurd a
-node-predicate Beyond a b = absurd a
+-- a node that must be a name is one
+pub node-name : (k : Kind) → T (isName k || isLiteral k && false) → isName k ≡ true
+node-name NoTerm t = absurd t
+node-name Vocabulary t = absurd t
+node-name Name t = refl
+node-name Literal t = absurd t
+node-name BlankNode t = absurd t
+node-name Beyond t = absurd t
 
 -- the numbers of each kind
 abbrev pub OfKind : Kind → ℕ → Type 0
@@ -79,3 +84,15 @@ kind-within n =
     (λ c. by-cases (ltb n 60000) (λ d. rw (a, b, c, d) (ltb-false n 40000 c, ltb-true n 60000 d))
     (λ d. by-cases (leb n 65535) (λ e. rw (a, b, c, d, e) (ltb-false n 60000 d, leb-true n 65535 e))
     (λ e. rw (a, b, c, d, e) (leb-false n 65535 e))))))
+
+-- the vocabulary is below the names
+pub vocabulary-below : (n : ℕ) → T (isVocabulary (kindOf n)) → n < 6
+vocabulary-below n = go (kindOf n) (kind-within n)
+  where
+    go : (k : Kind) → OfKind k n → T (isVocabulary k) → n < 6
+    go NoTerm w t = absurd t
+    go Vocabulary w t = w .1
+    go Name w t = absurd t
+    go Literal w t = absurd t
+    go BlankNode w t = absurd t
+    go Beyond w t = absurd t

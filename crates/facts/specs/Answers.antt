@@ -1,10 +1,10 @@
--- Document 01's number, place and count for each answer, and the term that a yes names for a gap (document 02, Point 1).
+-- The papers' number, place and count for each answer, and the term that a yes names for a gap (document 02, Point 1).
 -- Assumes nothing.
 use mathlib.Core.Path.{_≡_}
 use mathlib.Core.Logic.{_⊎_}
 use Prim.Native.Nat.{ℕ}
 use Rattle.facts.specs.declared.Refusal.{Refusal}
-use Rattle.facts.specs.declared.Refusal.the-variants.{Size, Column, Term, Blank, Part, Order, Allowance, Short, Form, Step, End}
+use Rattle.facts.specs.declared.Refusal.the-variants.{Size, Column, Term, Blank, Part, Order, Allowance, Short, Form, Step, End, Class}
 use Rattle.facts.specs.declared.Answer.{Answer}
 use Rattle.facts.specs.declared.Answer.the-variants.{Done, Yes, No, Long, Accepted, Refused}
 use Rattle.facts.specs.declared.Code.{Code}
@@ -29,6 +29,7 @@ numberOf Short = 8
 numberOf Form = 9
 numberOf Step = 10
 numberOf End = 11
+numberOf Class = 12
 
 -- a refusal carries number and place, count 0; every other answer its number and count, place 0; only a yes names a term
 abbrev pub codeOf : Answer → Code

@@ -1,4 +1,4 @@
--- A gap in a question (document 02, Point 1): which triples may be asked, what fills a gap, and which of refusals 3 to 5 a
+-- A gap in a question (document 02, Point 1): which triples may be asked, what fills a gap, and which of refusals 3, 4, 5 and 12 a
 -- question's triple earns. A table, a row and the check know no gap: for them a blank node earns refusal 4 (`faultOf`).
 -- Assumes nothing.
 use mathlib.Core.Path.{_≡_}
@@ -9,9 +9,9 @@ use lib.Dec.{T}
 use Rattle.facts.specs.declared.Fact.{Fact}
 use Rattle.facts.specs.declared.Verdict.{Verdict}
 use Rattle.facts.specs.declared.Verdict.the-variants.{Sound, Faulty}
-use Rattle.facts.specs.declared.Refusal.the-variants.{Term, Blank, Part}
+use Rattle.facts.specs.declared.Refusal.the-variants.{Term, Blank, Part, Class}
 use Rattle.facts.specs.Terms.{kindOf, isBlank}
-use Rattle.facts.specs.Facts.{fact, wellFormed, hasNoTerm, misplaced}
+use Rattle.facts.specs.Facts.{fact, wellFormed, hasNoTerm, misplaced, textAsClass}
 
 -- a gap is a blank node, whatever its number
 unfoldable pub isGap : ℕ → Bool
@@ -46,10 +46,14 @@ unfoldable pub blankRefused : Fact → Bool
 unfolding isGap
 blankRefused t = isGap (t .predicate) || isGap (t .subject) && isGap (t .object)
 
--- the first of 3, 4, 5 that a question's triple earns, in that order; a gap is in no wrong part
+-- the first of 3, 4, 5, 12 that a question's triple earns, in that order; a gap is in no wrong part, and is no literal
 unfoldable pub questionFault : Fact → Verdict
-unfolding hasNoTerm blankRefused misplaced
-questionFault t = cond (hasNoTerm t) (Faulty Term) (cond (blankRefused t) (Faulty Blank) (cond (misplaced t) (Faulty Part) Sound))
+unfolding hasNoTerm blankRefused misplaced textAsClass
+questionFault t =
+    cond (hasNoTerm t) (Faulty Term)
+    (cond (blankRefused t) (Faulty Blank)
+    (cond (misplaced t) (Faulty Part)
+    (cond (textAsClass t) (Faulty Class) Sound)))
 
 -- what stands in u where t has its gap, and 0 where t has none
 unfoldable pub fillingOf : Fact → Fact → ℕ

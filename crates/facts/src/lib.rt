@@ -28,7 +28,7 @@ pub struct Fact {
     pub object: u32,
 }
 
-// What document 01 refuses, under its own words.
+// What documents 01 and 02 refuse, under their own words.
 pub enum Refusal {
     Size,
     Column,
@@ -41,6 +41,7 @@ pub enum Refusal {
     Form,
     Step,
     End,
+    Class,
 }
 
 // What a test finds: nothing to refuse, or the first refusal that is earned.

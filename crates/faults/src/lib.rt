@@ -1,13 +1,16 @@
-// The first of refusals 3, 4 and 5 that a fact earns, and the order of two facts (document 01's table of numbers, "Table layout").
+// The first of refusals 3, 4, 5, 12 and 6 that a fact earns, and the order of two facts (document 01's table of numbers, "Table
+// layout"; document 02, Point 2).
 use facts::Fact;
 use facts::Refusal;
 use facts::Verdict;
 use terms::is_blank;
+use terms::is_literal;
 use terms::is_no_term;
+use terms::is_vocabulary;
 use terms::is_well_formed;
 use terms::kind_of;
 ghost use mathlib.Core.Path.{_≡_};
-ghost use Rattle.facts.specs.Facts.{hasNoTerm, hasBlank, faultOf, before};
+ghost use Rattle.facts.specs.Facts.{hasNoTerm, hasBlank, misplaced, faultOf, orderOf, verdictOf, before};
 
 // What earns refusal 3: a number of the fact is no term.
 pub fn has_no_term(f: Fact) -> bool
@@ -25,13 +28,33 @@ fn has_blank(f: Fact) -> bool
     is_blank(kind_of(f.subject)) | is_blank(kind_of(f.predicate)) | is_blank(kind_of(f.object))
 }
 
-// The first of refusals 3, 4 and 5 that the fact earns, each over its whole width. Most facts are well-formed, and one
-// cheap test tells; what is not and earns neither 3 nor 4 has a term in a wrong part.
-pub fn fault(f: Fact) -> Verdict
-    ensures { λ r. ⌜ r ≡ faultOf f ⌝ }
+// What earns refusal 5: vocabulary as subject or object, or a literal as predicate.
+fn is_misplaced(f: Fact) -> bool
+    ensures { λ r. ⌜ r ≡ misplaced f ⌝ }
+{
+    is_vocabulary(kind_of(f.subject))
+        | is_vocabulary(kind_of(f.object))
+        | is_literal(kind_of(f.predicate))
+}
+
+// What a well-formed fact earns: refusal 6, where it is not above the fact before it.
+pub fn order(ascends: bool) -> Verdict
+    ensures { λ r. ⌜ r ≡ orderOf ascends ⌝ }
+{
+    if ascends {
+        return Verdict::Sound;
+    }
+    Verdict::Faulty(Refusal::Order)
+}
+
+// The first of refusals 3, 4, 5, 12 and 6 that the fact earns, each over its whole width; ascends says that it is above the fact
+// before it. Most facts are well-formed, and one cheap test tells; what is not and earns none of 3, 4 and 5 has a literal where its
+// predicate asks for a name.
+pub fn verdict(ascends: bool, f: Fact) -> Verdict
+    ensures { λ r. ⌜ r ≡ verdictOf ascends f ⌝ }
 {
     if is_well_formed(f) {
-        return Verdict::Sound;
+        return order(ascends);
     }
     if has_no_term(f) {
         return Verdict::Faulty(Refusal::Term);
@@ -39,7 +62,17 @@ pub fn fault(f: Fact) -> Verdict
     if has_blank(f) {
         return Verdict::Faulty(Refusal::Blank);
     }
-    Verdict::Faulty(Refusal::Part)
+    if is_misplaced(f) {
+        return Verdict::Faulty(Refusal::Part);
+    }
+    Verdict::Faulty(Refusal::Class)
+}
+
+// The first of refusals 3, 4, 5 and 12 that a fact by itself earns.
+pub fn fault(f: Fact) -> Verdict
+    ensures { λ r. ⌜ r ≡ faultOf f ⌝ }
+{
+    verdict(true, f)
 }
 
 // The order of facts: by subject, then predicate, then object.

@@ -49,7 +49,7 @@ pub fn filled_by(t: Fact, x: u32) -> Fact
     }
 }
 
-// The first of refusals 3, 4 and 5 that a question's triple earns: one gap, as subject or object, earns none, and a name in its
+// The first of refusals 3, 4, 5 and 12 that a question's triple earns: one gap, as subject or object, earns none, and a name in its
 // place leaves what the other terms earn.
 pub fn question_fault(t: Fact) -> Verdict
     ensures { λ r. ⌜ r ≡ questionFault t ⌝ }

@@ -32,7 +32,7 @@ only-shut w a e = by-cases (onlyTable (a .predicate)) (λ o. o) (λ o. absurd (t
 next-none : (w : ℕ) (a b : Fact) → goesOn w a ≡ false → T (next w a b) → ⊥
 next-none w a b e h =
     ⊎-elim (λ (x : T (goesOn w a) × (b .predicate ≡ chain (property a))). let z : T false = subst T e (x .0) in z)
-    (λ (x : (property a ≡ true) × (b .predicate ≡ w) × (named (b .subject) ≡ true)). true≢false (sym (x .0) ∙ only-says a (only-shut w a e) .2)) (next-says w a b h .1)
+    (λ (x : (property a ≡ true) × (b .predicate ≡ w)). true≢false (sym (x .0) ∙ only-says a (only-shut w a e) .2)) (next-says w a b h .1)
 
 slot-only : (p q : Bool) (l m : ℕ) → l ≤ 1024 → m ≤ 1024 → slotOf p l ≡ slotOf q m → (p ≡ q) × (l ≡ m)
 slot-only true true l m a b e = (refl, omega arith)

@@ -79,7 +79,7 @@ next-classing : (v : ℕ) (a b : Fact) → Classing a → T (next v a b) → Cla
 unfolding property kindOf onlyTable chain
 next-classing v a b c h =
     ⊎-elim (λ (x : T (goesOn v a) × (b .predicate ≡ chain (property a))). classing b sc refl refl (x .1 ∙ ap chain (c .class)))
-    (λ (x : (property a ≡ true) × (b .predicate ≡ v) × (named (b .subject) ≡ true)). absurd (true≢false (sym (x .0) ∙ c .class))) (next-says v a b h .1)
+    (λ (x : (property a ≡ true) × (b .predicate ≡ v)). absurd (true≢false (sym (x .0) ∙ c .class))) (next-says v a b h .1)
 
 module _ (row : List ℕ) (n : ℕ) (t : Fact) (asks : t .predicate ≡ 5) (gap : isGap (t .subject) ≡ false) (out : n ≤ placeOr n (least (into row (t .subject)) 0 n)) where
   -- no fact is into the subject

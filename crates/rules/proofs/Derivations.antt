@@ -31,10 +31,10 @@ conclusion-is (l ∷ []) e = cc
 conclusion-is (l ∷ m ∷ d) e = conclusion-is (m ∷ d) e
 
 -- the facts of the lines of d are in the set
-abbrev LinesIn : (Fact → Type 0) → List Line → Type 0
+abbrev pub LinesIn : (Fact → Type 0) → List Line → Type 0
 LinesIn M d = (l : Line) → l ∈ d → M (l .fact)
 
-factOn-M : (M : Fact → Type 0) (d : List Line) (n : ℕ) {f : Fact} → LinesIn M d → factOn d n ≡ some f → M f
+pub factOn-M : (M : Fact → Type 0) (d : List Line) (n : ℕ) {f : Fact} → LinesIn M d → factOn d n ≡ some f → M f
 factOn-M M d n h e = let r = factOn-in d n e in rw (r .2) at (h (r .0) (r .1))
 
 -- the set holds the facts of the table lines of d

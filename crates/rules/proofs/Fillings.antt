@@ -9,11 +9,11 @@ use Prim.Native.Nat.{ℕ}
 use lib.Dec.{T, eqb}
 use mir.Facts.{and-yes, yes-and, or-yes, eqb-yes, yes-eqb}
 use Rattle.facts.specs.declared.Fact.{Fact}
-use Rattle.facts.specs.Terms.{kindOf, isLiteral, range, type}
-use Rattle.facts.specs.Facts.{fact, isNode, wellFormed}
+use Rattle.facts.specs.Terms.{kindOf, range, type}
+use Rattle.facts.specs.Facts.{fact, namedSubject, namedObject, isNode, wellFormed}
 use Rattle.facts.specs.Gaps.{isGap, Fills, Askable, termOr}
 use Rattle.facts.proofs.Terms.{by-cases, T-of, of-T}
-use Rattle.facts.proofs.Facts.{fact-eq, parts, whole}
+use Rattle.facts.proofs.Facts.{fact-eq, parts, whole, name-stands, object-name, name-free, word-object}
 use Rattle.facts.proofs.Gaps.{predicate-whole, askable-subject, askable-predicate, askable-object, fills-predicate, fills-only}
 use Rattle.rules.specs.Graph.{_∈_, nodes}
 use Rattle.rules.specs.Derivations.{Relation, Derives, Least}
@@ -110,14 +110,19 @@ term-whole : (x n : ℕ) → isGap n ≡ false → termOr x n ≡ n
 unfolding termOr
 term-whole x n g = rw g
 
-term-node : (x n : ℕ) → T (isNode x) → (isGap n ≡ false → T (isNode n)) → T (isNode (termOr x n))
+term-node : (b : Bool) (x n : ℕ) → T (isNode b x) → (isGap n ≡ false → T (isNode b n)) → T (isNode b (termOr x n))
 unfolding termOr
-term-node x n p q = by-cases (isGap n) (λ g. rw g p) (λ g. rw g (q g))
+term-node b x n p q = by-cases (isGap n) (λ g. rw g p) (λ g. rw g (q g))
 
--- a name is a node
-name-node : (n : ℕ) → named n ≡ true → T (isNode n)
-unfolding isNode
-name-node n h = or-l (named n) (isLiteral (kindOf n)) (T-of _ h)
+-- a fact leads to a name
+link-name : (b : Fact) → T (wellFormed b) → named (link b) ≡ true
+link-name b w =
+    by-cases (named (b .predicate)) (λ n. rw (link-data b n) n)
+    (λ n. rw (link-vocabulary b n) (object-name b w (word-object (b .predicate) (parts b w .1) n)))
+
+-- the subject and the object of a data fact may stand wherever a literal may
+data-nodes : (a : Fact) → T (wellFormed a) → named (a .predicate) ≡ true → T (isNode false (a .subject)) × T (isNode false (a .object))
+data-nodes a w n = let f = name-free (a .predicate) n in let p = parts a w in (rw (f .0) at (p .0), rw (f .1) at (p .2))
 
 module _ (w : ℕ) (t a b : Fact) (ask : Askable t) (begin : T (startFor w t a)) (end : T (goalFor t b)) where
   abbrev whole-fact : Fact
@@ -150,24 +155,30 @@ module _ (w : ℕ) (t a b : Fact) (ask : Askable t) (begin : T (startFor w t a))
       (fits-goal .1 ∙ property-of t whole-fact refl)
 
   module _ (wa : T (wellFormed a)) (wb : T (wellFormed b)) where
-    link-node : T (isNode (link b))
-    link-node = by-cases (named (b .predicate)) (λ n. rw (link-data b n) (name-node _ n)) (λ n. rw (link-vocabulary b n) (parts b wb .2))
-
-    begun-node : T (isNode (begun w t a))
-    unfolding begun typed
+    -- a path for a type may begin with a data fact, and type its subject or its object; any other begins with a fact of the question's
+    -- predicate, and ends with one that leads to a name
+    begun-node : T (isNode (namedSubject (t .predicate)) (begun w t a))
+    unfolding begun typed startFor namedSubject
     begun-node =
-        let p = parts a wa in
         by-cases (named (a .predicate))
-        (λ d. by-cases (named (t .predicate)) (λ n. rw (d, n) (p .0)) (λ n. by-cases (eqb w range) (λ r. rw (d, n, r) (p .2)) (λ r. rw (d, n, r) (p .0))))
-        (λ d. rw d (p .0))
+        (λ d. let p = data-nodes a wa d in by-cases (named (t .predicate)) (λ n. rw (d, n, name-free (t .predicate) n .0) (p .0))
+        (λ n. let y : t .predicate ≡ type = eqb-yes (and-yes (eqb (t .predicate) type) (fits (t .subject) (typed w a)) (rw (d, n) at begin) .0) in
+        by-cases (eqb w range) (λ r. rw (d, n, r, y) (p .1)) (λ r. rw (d, n, r, y) (p .0))))
+        (λ d. let e : a .predicate ≡ t .predicate = eqb-yes (and-yes (eqb (a .predicate) (t .predicate)) (fits (t .subject) (a .subject)) (rw d at begin) .0) in
+        rw (d, ← e) (parts a wa .0))
 
-    ended-node : T (isNode (ended t a b))
-    unfolding ended
-    ended-node = by-cases (named (t .predicate)) (λ n. rw n (parts a wa .2)) (λ n. rw n link-node)
+    ended-node : T (isNode (namedObject (t .predicate)) (ended t a b))
+    unfolding ended startFor
+    ended-node =
+        by-cases (named (t .predicate))
+        (λ n. by-cases (named (a .predicate)) (λ d. rw (n, name-free (t .predicate) n .1) (data-nodes a wa d .1))
+        (λ d. let e : a .predicate ≡ t .predicate = eqb-yes (and-yes (eqb (a .predicate) (t .predicate)) (fits (t .subject) (a .subject)) (rw d at begin) .0) in
+        absurd (true≢false (sym n ∙ ap named (sym e) ∙ d))))
+        (λ n. rw n (name-stands _ _ (link-name b wb)))
 
     fills-it : Fills t whole-fact
     fills-it = record {
-      formed = whole whole-fact (term-node _ _ begun-node (askable-subject ask)) (askable-predicate ask) (term-node _ _ ended-node (askable-object ask));
+      formed = whole whole-fact (term-node _ _ _ begun-node (askable-subject ask)) (askable-predicate ask) (term-node _ _ _ ended-node (askable-object ask));
       subject = λ g. term-whole _ _ g;
       predicate = λ g. refl;
       object = λ g. term-whole _ _ g;

@@ -14,16 +14,17 @@ use borrow.Author.Tests.{ne-eqb}
 use mir.Facts.{or-yes, eqb-yes}
 use Rattle.facts.specs.declared.Fact.{Fact}
 use Rattle.facts.specs.Terms.{kindOf, sc, sp, dom, range}
-use Rattle.facts.specs.Facts.{fact, wellFormed}
+use Rattle.facts.specs.Facts.{fact, namedSubject, wellFormed}
 use Rattle.facts.proofs.Terms.{by-cases, T-of}
-use Rattle.facts.proofs.Facts.{parts}
+use Rattle.facts.proofs.Facts.{parts, subject-name}
 use Rattle.rules.specs.Graph.{_∈_}
 use Rattle.rules.specs.Rules.{Gives, sp-sp, sp-data, sc-sc, sc-type, dom-data, range-data, Rule}
 use Rattle.rules.specs.Derivations.{Line, derivationLine, factOn, Justified, by-table, by-rule, Justify, tableFacts, tableLines}
 use Rattle.rules.specs.Order.{Chain, AtMostOne, OfData, DomOrRange, FactsInOrder, RuleLine, Pairs, Alternates}
 use Rattle.rules.specs.Paths.{named, onlyTable}
 use Rattle.rules.specs.Printed.{join, joinAll, printed, Printable}
-use Rattle.rules.proofs.Paths.{name-of, open-of, Open, is-sc, is-sp, is-type}
+use Rattle.rules.proofs.Formed.{sp-names}
+use Rattle.rules.proofs.Paths.{open-of, Open, is-sc, is-sp, is-type}
 
 -- a rule joins f to c, with c or with f as its first premise, and gives r
 pub data Joined (c f r : Fact) : Type 0 where
@@ -60,31 +61,28 @@ data Joint (c f r : Fact) : Type 0 where
   sc-on : phase (c .predicate) ≡ 2 → f .predicate ≡ sc → c .object ≡ f .subject → phase (r .predicate) ≡ 2 → r .object ≡ f .object → Joint c f r
 
 -- the line that joins f to c where c is the first premise, and where f is
-join-first : {n : ℕ} {c f r : Fact} → Gives n c f r → T (wellFormed c) → T (wellFormed f) → T (wellFormed r) → T (leb n 3)
+join-first : {n : ℕ} {c f r : Fact} → Gives n c f r → T (wellFormed c) → T (leb n 3)
     → ((i : ℕ) → join c i f ≡ derivationLine n i (suc i) r) × Joint c f r
 unfolding join phase
-join-first sp-sp u v w t = (λ i. refl, sp-on refl refl refl refl refl)
-join-first (sp-data {A} {B} {X} {Y}) u v w t =
-    let a = name-of A (parts (fact A sp B) u .0) (parts (fact X A Y) v .1) in
-    let b = name-of B (parts (fact A sp B) u .2) (parts (fact X B Y) w .1) in
-    (λ i. rw a, data-on refl a (rw b))
-join-first sc-sc u v w t = (λ i. refl, sc-on refl refl refl refl refl)
-join-first sc-type u v w t = absurd t
-join-first dom-data u v w t = absurd t
-join-first range-data u v w t = absurd t
+join-first sp-sp u t = (λ i. refl, sp-on refl refl refl refl refl)
+join-first (sp-data {A} {B} {X} {Y}) u t = let n = sp-names A B u in (λ i. rw (n .0), data-on refl (n .0) (rw (n .1)))
+join-first sc-sc u t = (λ i. refl, sc-on refl refl refl refl refl)
+join-first sc-type u t = absurd t
+join-first dom-data u t = absurd t
+join-first range-data u t = absurd t
 
-join-second : {n : ℕ} {c f r : Fact} → Gives n f c r → T (wellFormed f) → T (wellFormed c) → T (leb 4 n) → ((i : ℕ) → join c i f ≡ derivationLine n (suc i) i r) × Joint c f r
-unfolding join phase
-join-second sc-type u v t = (λ i. refl, sc-on refl refl refl refl refl)
-join-second (dom-data {A} {B} {X} {Y}) u v t = (λ i. refl, type-on (rw (name-of A (parts (fact A dom B) u .0) (parts (fact X A Y) v .1))) (inl refl) refl)
-join-second (range-data {A} {B} {X} {Y}) u v t = (λ i. refl, type-on (rw (name-of A (parts (fact A range B) u .0) (parts (fact X A Y) v .1))) (inr refl) refl)
-join-second sp-sp u v t = absurd t
-join-second sp-data u v t = absurd t
-join-second sc-sc u v t = absurd t
+join-second : {n : ℕ} {c f r : Fact} → Gives n f c r → T (wellFormed f) → T (leb 4 n) → ((i : ℕ) → join c i f ≡ derivationLine n (suc i) i r) × Joint c f r
+unfolding join phase namedSubject
+join-second sc-type u t = (λ i. refl, sc-on refl refl refl refl refl)
+join-second (dom-data {A} {B} {X} {Y}) u t = (λ i. refl, type-on (rw (subject-name (fact A dom B) u refl)) (inl refl) refl)
+join-second (range-data {A} {B} {X} {Y}) u t = (λ i. refl, type-on (rw (subject-name (fact A range B) u refl)) (inr refl) refl)
+join-second sp-sp u t = absurd t
+join-second sp-data u t = absurd t
+join-second sc-sc u t = absurd t
 
 joint : {c f r : Fact} → Joined c f r → Joint c f r
-joint (on-first n b s) = join-first (s .gives) (s .first) (s .second) (s .result) b .1
-joint (on-second n b s) = join-second (s .gives) (s .first) (s .second) b .1
+joint (on-first n b s) = join-first (s .gives) (s .first) b .1
+joint (on-second n b s) = join-second (s .gives) (s .first) b .1
 
 -- ---- the facts are in the printed order
 
@@ -266,9 +264,9 @@ record Goes (table : List Fact) (before : List Line) (d : List Line) (t : Fact) 
 joined-line : {table : List Fact} (before : List Line) {c f r : Fact} {i : ℕ} → Joined c f r → length before ≡ i → factOn before i ≡ some c
     → Justified Rule table (before ++ (derivationLine 0 0 0 f ∷ [])) (join c i f) × (join c i f .fact ≡ r)
 joined-line before {f = f} {i = i} (on-first n b s) z h =
-    rw (join-first (s .gives) (s .first) (s .second) (s .result) b .0 i) (by-rule (factOn-left before _ i h) (factOn-snoc before (derivationLine 0 0 0 f) z) s, refl)
+    rw (join-first (s .gives) (s .first) b .0 i) (by-rule (factOn-left before _ i h) (factOn-snoc before (derivationLine 0 0 0 f) z) s, refl)
 joined-line before {f = f} {i = i} (on-second n b s) z h =
-    rw (join-second (s .gives) (s .first) (s .second) b .0 i) (by-rule (factOn-snoc before (derivationLine 0 0 0 f) z) (factOn-left before _ i h) s, refl)
+    rw (join-second (s .gives) (s .first) b .0 i) (by-rule (factOn-snoc before (derivationLine 0 0 0 f) z) (factOn-left before _ i h) s, refl)
 
 print-joins : (table : List Fact) (before : List Line) (i : ℕ) {c t : Fact} {fs : List Fact} → length before ≡ i → factOn before i ≡ some c → Joins table c fs t
     → Goes table before (joinAll c i fs) t

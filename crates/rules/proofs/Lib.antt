@@ -3,6 +3,7 @@ pub mod Chosen
 pub mod Derivations
 pub mod Fewest
 pub mod Fillings
+pub mod Formed
 pub mod Graph
 pub mod Joins
 pub mod Paths

@@ -12,9 +12,9 @@ use borrow.Author.Tests.{ne-eqb, le-ltb}
 use mir.Facts.{and-yes, yes-and, or-yes, eqb-yes, yes-eqb}
 use Rattle.facts.specs.declared.Fact.{Fact}
 use Rattle.facts.specs.Terms.{kindOf, isVocabulary, sc, sp, dom, range, type}
-use Rattle.facts.specs.Facts.{fact, isNode, isPredicate, wellFormed}
-use Rattle.facts.proofs.Terms.{by-cases, T-of, of-T, of-F, node-predicate}
-use Rattle.facts.proofs.Facts.{fact-eq, parts}
+use Rattle.facts.specs.Facts.{fact, namedSubject, isPredicate, wellFormed}
+use Rattle.facts.proofs.Terms.{by-cases, T-of, of-T, of-F, vocabulary-below}
+use Rattle.facts.proofs.Facts.{fact-eq, subject-name}
 use Rattle.rules.specs.Graph.{_∈_, Path, first, step, nodes}
 use Rattle.rules.specs.Rules.{Gives, sp-sp, sp-data, sc-sc, sc-type, dom-data, range-data, Rule}
 use Rattle.rules.specs.Derivations.{Line, Derives, tableFacts, tableLines, Closed, Holds}
@@ -24,6 +24,7 @@ use Rattle.rules.proofs.Tests.{or-l, or-r, beq-yes, beq-self}
 use Rattle.rules.proofs.Graph.{map-path, append-path, end-in, short}
 use Rattle.rules.proofs.Steps.{same-eq, same-self, rule-numbered}
 use Rattle.rules.proofs.Derivations.{closed-derives, tableFacts-in}
+use Rattle.rules.proofs.Formed.{sp-names}
 
 -- ---- what the tests say
 
@@ -56,31 +57,28 @@ start-data w t a n h =
     (λ e. let q = and-yes (eqb (a .subject) (t .subject)) (eqb (a .object) (t .object)) (rw (e, n) at h) in (e, eqb-yes (q .0), eqb-yes (q .1)))
     (λ e. let r = start-other w t a e h in ((cc), (cc), (cc)))
 
--- what may follow: the next of a chain, or a fact by which a name is left
+-- what may follow: the next of a chain, or a fact by which a property is left
 abbrev pub Succeeds : ℕ → Fact → Fact → Type 0
-Succeeds w a b = (T (goesOn w a) × (b .predicate ≡ chain (property a))) ⊎ ((property a ≡ true) × (b .predicate ≡ w) × (named (b .subject) ≡ true))
+Succeeds w a b = (T (goesOn w a) × (b .predicate ≡ chain (property a))) ⊎ ((property a ≡ true) × (b .predicate ≡ w))
 
 pub next-says : (w : ℕ) (a b : Fact) → T (next w a b) → (b .subject ≡ link a) × Succeeds w a b
 unfolding next
 next-says w a b h =
     let on : Bool = goesOn w a && eqb (b .predicate) (chain (property a)) in
     let by : Bool = property a && eqb (b .predicate) w in
-    let r = and-yes (eqb (b .subject) (link a)) (on || by && named (b .subject)) h in (
+    let r = and-yes (eqb (b .subject) (link a)) (on || by) h in (
       eqb-yes (r .0),
       ⊎-map (λ u. let x = and-yes (goesOn w a) (eqb (b .predicate) (chain (property a))) u in (x .0, eqb-yes (x .1)))
-          (λ v. let x = and-yes by (named (b .subject)) v in
-          let y = and-yes (property a) (eqb (b .predicate) w) (x .0) in (of-T (property a) (y .0), eqb-yes (y .1), of-T (named (b .subject)) (x .1)))
-          (or-yes on (by && named (b .subject)) (r .1)),
+          (λ v. let x = and-yes (property a) (eqb (b .predicate) w) v in (of-T (property a) (x .0), eqb-yes (x .1))) (or-yes on by (r .1)),
     )
 
 next-is : (w : ℕ) (a b : Fact) → b .subject ≡ link a → Succeeds w a b → T (next w a b)
 unfolding next
 next-is w a b e f = yes-and (eqb (b .subject) (link a)) _ (yes-eqb e) (go f)
   where
-    go : Succeeds w a b → T (goesOn w a && eqb (b .predicate) (chain (property a)) || property a && eqb (b .predicate) w && named (b .subject))
+    go : Succeeds w a b → T (goesOn w a && eqb (b .predicate) (chain (property a)) || property a && eqb (b .predicate) w)
     go (inl (g, q)) = or-l (goesOn w a && eqb (b .predicate) (chain (property a))) _ (yes-and (goesOn w a) _ g (yes-eqb q))
-    go (inr (p, q, n)) =
-        or-r (goesOn w a && eqb (b .predicate) (chain (property a))) _ (yes-and (property a && eqb (b .predicate) w) _ (yes-and (property a) _ (T-of _ p) (yes-eqb q)) (T-of _ n))
+    go (inr (p, q)) = or-r (goesOn w a && eqb (b .predicate) (chain (property a))) _ (yes-and (property a) _ (T-of _ p) (yes-eqb q))
 
 -- ---- terms and facts by their predicate
 
@@ -91,11 +89,6 @@ name-not v n f h = by-cases (eqb n v) (λ e. absurd (true≢false (sym h ∙ ap 
 pub not-type : (n : ℕ) → named n ≡ true → eqb n type ≡ false
 unfolding kindOf
 not-type n h = name-not type n refl h
-
--- what is a node of one fact and the predicate of another is a name
-pub name-of : (n : ℕ) → T (isNode n) → T (isPredicate n) → named n ≡ true
-unfolding isNode isPredicate
-name-of n t p = node-predicate (kindOf n) t p
 
 pub link-vocabulary : (f : Fact) → named (f .predicate) ≡ false → link f ≡ f .object
 unfolding link
@@ -136,15 +129,6 @@ pub data Open : ℕ → Type 0 where
   is-sp : Open sp
   is-type : Open type
 
-above-vocabulary : (n : ℕ) → 6 ≤ n → T (isVocabulary (kindOf n)) → ⊥
-unfolding kindOf
-above-vocabulary n h t =
-    let z = ne-eqb n 0 (λ e. omega arith) in
-    let l = le-ltb n 6 h in
-    by-cases (ltb n 40000) (λ a. rw (z, l, a) at t)
-    (λ a. by-cases (ltb n 60000) (λ b. rw (z, l, a, b) at t)
-    (λ b. by-cases (leb n 65535) (λ c. rw (z, l, a, b, c) at t) (λ c. rw (z, l, a, b, c) at t)))
-
 pub open-of : (P : ℕ) → T (isPredicate P) → named P ≡ false → onlyTable P ≡ false → Open P
 unfolding isPredicate onlyTable
 open-of zero p n o = absurd p
@@ -155,7 +139,7 @@ open-of (suc (suc (suc (suc zero)))) p n o = absurd (true≢false o)
 open-of (suc (suc (suc (suc (suc zero))))) p n o = is-type
 open-of (suc (suc (suc (suc (suc (suc k)))))) p n o =
     let P : ℕ = suc (suc (suc (suc (suc (suc k))))) in
-    ⊎-elim (λ h. absurd (true≢false (sym (of-T (named P) h) ∙ n))) (λ h. absurd (above-vocabulary P (omega arith) h)) (or-yes (named P) (isVocabulary (kindOf P)) p)
+    ⊎-elim (λ h. absurd (true≢false (sym (of-T (named P) h) ∙ n))) (λ h. absurd (omega (arith, vocabulary-below P h))) (or-yes (named P) (isVocabulary (kindOf P)) p)
 
 -- ---- where a chain goes on
 
@@ -265,26 +249,27 @@ module _ (S : List Fact) where
         end = fact A w B;
         count = _;
         path = step (map-path (λ b m. m) (λ b s. let q = start-data (h .way) d b n s in rw (q .0) (yes-eqb {a = typed w b} {b = typed w d} (cc))) (λ a b n. weaken w a b (rw only at n)) (h .path))
-            f (next-is w (h .end) (fact A w B) (cc) (inr ((cc), refl, n)));
+            f (next-is w (h .end) (fact A w B) (cc) (inr ((cc), refl)));
         goal = goal-is (fact (typed w d) type B) (fact A w B) (rw u) (rw (u, y));
       }
 
   -- having a path is closed under the rules
-  rules : {n : ℕ} {p q r : Fact} → Gives n p q r → T (wellFormed p) → T (wellFormed q) → T (wellFormed r) → HasPath S p → HasPath S q → HasPath S r
-  unfolding start typed link property kindOf chain ways onlyTable
-  rules (sp-sp {A} {B} {C}) u v w h k = extend (fact A sp B) (fact A sp C) true B C refl refl refl refl refl refl (λ w b s. s) k h
-  rules (sp-data {A} {B} {X} {Y}) u v w h k =
-      let a = name-of A (parts (fact A sp B) u .0) (parts (fact X A Y) v .1) in
-      let b = name-of B (parts (fact A sp B) u .2) (parts (fact X B Y) w .1) in
+  rules : {n : ℕ} {p q r : Fact} → Gives n p q r → T (wellFormed p) → HasPath S p → HasPath S q → HasPath S r
+  unfolding start typed link property kindOf chain ways onlyTable namedSubject
+  rules (sp-sp {A} {B} {C}) u h k = extend (fact A sp B) (fact A sp C) true B C refl refl refl refl refl refl (λ w b s. s) k h
+  rules (sp-data {A} {B} {X} {Y}) u h k =
+      let n = sp-names A B u in
+      let a = n .0 in
+      let b = n .1 in
       extend (fact X A Y) (fact X B Y) true A B (name-open (fact X A Y) a)
       (property-data (fact X A Y) a) (property-data (fact X B Y) b) (link-data (fact X A Y) a) (link-data (fact X B Y) b) (rw (not-type A a, not-type B b))
       (λ w c s. let q = start-data w (fact X A Y) c a s in rw (q .0, b) (yes-and (eqb (c .subject) X) (eqb (c .object) Y) (yes-eqb (q .1)) (yes-eqb (q .2)))) h k
-  rules (sc-sc {A} {B} {C}) u v w h k = extend (fact A sc B) (fact A sc C) false B C refl refl refl refl refl refl (λ w b s. s) k h
-  rules (sc-type {A} {B} {X}) u v w h k = extend (fact X type A) (fact X type B) false A B refl refl refl refl refl refl (λ w b s. s) h k
-  rules (dom-data {A} {B} {X} {Y}) u v w h k =
-      leave X A Y B dom (name-of A (parts (fact A dom B) u .0) (parts (fact X A Y) v .1)) (List·Memᴰ·head refl) refl refl (only-path (fact A dom B) refl h .1) k
-  rules (range-data {A} {B} {X} {Y}) u v w h k =
-      leave X A Y B range (name-of A (parts (fact A range B) u .0) (parts (fact X A Y) v .1)) (List·Memᴰ·tail (List·Memᴰ·head refl)) refl refl (only-path (fact A range B) refl h .1) k
+  rules (sc-sc {A} {B} {C}) u h k = extend (fact A sc B) (fact A sc C) false B C refl refl refl refl refl refl (λ w b s. s) k h
+  rules (sc-type {A} {B} {X}) u h k = extend (fact X type A) (fact X type B) false A B refl refl refl refl refl refl (λ w b s. s) h k
+  rules (dom-data {A} {B} {X} {Y}) u h k =
+      leave X A Y B dom (subject-name (fact A dom B) u refl) (List·Memᴰ·head refl) refl refl (only-path (fact A dom B) refl h .1) k
+  rules (range-data {A} {B} {X} {Y}) u h k =
+      leave X A Y B range (subject-name (fact A range B) u refl) (List·Memᴰ·tail (List·Memᴰ·head refl)) refl refl (only-path (fact A range B) refl h .1) k
 
 -- a fact of S has a path of one fact
 start-self : (w : ℕ) (t : Fact) → T (start w t t)
@@ -304,7 +289,7 @@ holds S t m =
     record { way = w .0; asked = w .1; end = t; count = 1; path = first m (start-self (w .0) t); goal = goal-is t t refl refl }
 
 pub path-closed : (S : List Fact) → Closed Rule (HasPath S)
-path-closed S n p q r s = rules S (s .gives) (s .first) (s .second) (s .result)
+path-closed S n p q r s = rules S (s .gives) (s .first)
 
 -- complete: a derived fact has a path over the facts of the derivation's table lines
 pub derives-path : {table : List Fact} {d : List Line} {t : Fact} → Derives Rule table d t → HasPath (tableFacts d) t

@@ -12,13 +12,14 @@ use lib.Dec.{T, eqb}
 use mir.Facts.{and-yes, eqb-yes, yes-eqb}
 use Rattle.facts.specs.declared.Fact.{Fact}
 use Rattle.facts.specs.Terms.{kindOf, sc, sp, dom, range, type}
-use Rattle.facts.specs.Facts.{fact, isPredicate, wellFormed}
+use Rattle.facts.specs.Facts.{fact, wellFormed}
 use Rattle.facts.proofs.Terms.{by-cases, T-of, of-T}
-use Rattle.facts.proofs.Facts.{fact-eq, parts, whole}
+use Rattle.facts.proofs.Facts.{fact-eq, parts}
 use Rattle.rules.specs.Graph.{_∈_, Path, first, step, nodes}
 use Rattle.rules.specs.Rules.{sp-sp, sp-data, sc-sc, sc-type, dom-data, range-data}
 use Rattle.rules.specs.Paths.{named, link, property, chain, next, typed, onlyTable, start, goal, ways, Runs, HasPath}
 use Rattle.rules.specs.Printed.{Printable, behind, printOrder}
+use Rattle.rules.proofs.Formed.{gives-rule}
 use Rattle.rules.proofs.Paths.{plain, link-vocabulary, link-data, property-data, property-of, start-data, start-other, next-says, Succeeds, goal-says, only-path, only-says, chain-name, chain-property, Open, is-sc, is-sp, is-type, open-of}
 use Rattle.rules.proofs.Joins.{Joined, on-first, on-second, Joins, done, more, Linear, printable}
 
@@ -141,16 +142,13 @@ module _ (table : List Fact) (wf : (f : Fact) → f ∈ table → T (wellFormed 
   -- the result so far is (X P A), and b goes on from A
   carry : {P : ℕ} (X A : ℕ) (b : Fact) {fs : List Fact} → Open P → Linear table (fact X P A) fs → b ∈ table → b .subject ≡ A → b .predicate ≡ chain (property (fact X P A))
       → Linear table (fact X P (b .object)) (fs ++ (b ∷ []))
-  unfolding chain property isPredicate
+  unfolding chain property
   carry X A b o l m e p = go o l p
     where
-      made : (P : ℕ) → T (isPredicate P) → T (wellFormed (fact X P A)) → T (wellFormed (fact X P (b .object)))
-      made P p a = whole (fact X P (b .object)) (parts (fact X P A) a .0) p (parts b (wf b m) .2)
-
       go : {P : ℕ} {fs : List Fact} → Open P → Linear table (fact X P A) fs → b .predicate ≡ chain (property (fact X P A)) → Linear table (fact X P (b .object)) (fs ++ (b ∷ []))
-      go is-sc l p = put b A sc m e p l (λ w. on-first 3 tt (record { gives = sc-sc; first = l .formed; second = w; result = made sc tt (l .formed) }))
-      go is-sp l p = put b A sp m e p l (λ w. on-first 1 tt (record { gives = sp-sp; first = l .formed; second = w; result = made sp tt (l .formed) }))
-      go is-type l p = put b A sc m e p l (λ w. on-second 4 tt (record { gives = sc-type; first = w; second = l .formed; result = made type tt (l .formed) }))
+      go is-sc l p = put b A sc m e p l (λ w. on-first 3 tt (gives-rule sc-sc (l .formed) w))
+      go is-sp l p = put b A sp m e p l (λ w. on-first 1 tt (gives-rule sp-sp (l .formed) w))
+      go is-type l p = put b A sc m e p l (λ w. on-second 4 tt (gives-rule sc-type w (l .formed)))
 
   -- the path that begins with the data fact q leads to the property A: at once, or by a chain of sp facts
   abbrev Leads : Fact → ℕ → List Fact → Type 0
@@ -167,34 +165,19 @@ module _ (table : List Fact) (wf : (f : Fact) → f ∈ table → T (wellFormed 
       )
   lead-on q A b (inr (fs, z, a, l)) m s p = inr (fs ++ (b ∷ []), ap (λ (x : List Fact). x ++ (b ∷ [])) z, all-snoc fs b a p, carry (q .predicate) A b is-sp l m s p)
 
-  -- the data fact with the property to which q leads, where that is a name
-  lead-end : (q : Fact) (A : ℕ) {path : List Fact} → q ∈ table → named (q .predicate) ≡ true → named A ≡ true → Leads q A path → Linear table (fact (q .subject) A (q .object)) (printOrder path)
-  unfolding isPredicate printOrder
-  lead-end q A m n a (inl (e, z)) = rw (z, n) (of-fact (fact-eq q (fact (q .subject) A (q .object)) refl (sym e) refl) (one q m))
-  lead-end q A m n a (inr (fs, z, h, l)) = rw (z, n, behind-all q fs h) (add q l m (on-first 2 tt (record {
-    gives = sp-data;
-    first = l .formed;
-    second = wf q m;
-    result = let w = parts q (wf q m) in whole (fact (q .subject) A (q .object)) (w .0) (rw a tt) (w .2);
-  })))
+  -- the data fact with the property to which q leads
+  lead-end : (q : Fact) (A : ℕ) {path : List Fact} → q ∈ table → named (q .predicate) ≡ true → Leads q A path → Linear table (fact (q .subject) A (q .object)) (printOrder path)
+  unfolding printOrder
+  lead-end q A m n (inl (e, z)) = rw (z, n) (of-fact (fact-eq q (fact (q .subject) A (q .object)) refl (sym e) refl) (one q m))
+  lead-end q A m n (inr (fs, z, h, l)) = rw (z, n, behind-all q fs h) (add q l m (on-first 2 tt (gives-rule sp-data (l .formed) (wf q m))))
 
   -- a data fact's subject or object gets a type by b
-  give-type : (X A Y w : ℕ) (b : Fact) {fs : List Fact} → named A ≡ true → w ∈ dom ∷ range ∷ [] → Linear table (fact X A Y) fs → b ∈ table → b .subject ≡ A → b .predicate ≡ w
+  give-type : (X A Y w : ℕ) (b : Fact) {fs : List Fact} → w ∈ dom ∷ range ∷ [] → Linear table (fact X A Y) fs → b ∈ table → b .subject ≡ A → b .predicate ≡ w
       → Linear table (fact (typed w (fact X A Y)) type (b .object)) (fs ++ (b ∷ []))
-  unfolding typed isPredicate
-  give-type X A Y w b n v l m s p = ⊎-elim
-      (λ (e : w ≡ dom). rw e (put b A dom m s (p ∙ e) l (λ u. on-second 5 tt (record {
-        gives = dom-data;
-        first = u;
-        second = l .formed;
-        result = whole (fact X type (b .object)) (parts (fact X A Y) (l .formed) .0) tt (parts b (wf b m) .2);
-      }))))
-      (λ v. let e : w ≡ range = List·Memᴰ·eq-of-singleton v in rw e (put b A range m s (p ∙ e) l (λ u. on-second 6 tt (record {
-        gives = range-data;
-        first = u;
-        second = l .formed;
-        result = whole (fact Y type (b .object)) (parts (fact X A Y) (l .formed) .2) tt (parts b (wf b m) .2);
-      }))))
+  unfolding typed
+  give-type X A Y w b v l m s p = ⊎-elim
+      (λ (e : w ≡ dom). rw e (put b A dom m s (p ∙ e) l (λ u. on-second 5 tt (gives-rule dom-data u (l .formed)))))
+      (λ v. let e : w ≡ range = List·Memᴰ·eq-of-singleton v in rw e (put b A range m s (p ∙ e) l (λ u. on-second 6 tt (gives-rule range-data u (l .formed)))))
       (List·Memᴰ·cases-cons v)
 
   -- ---- a path gives a line of facts
@@ -240,21 +223,20 @@ module _ (table : List Fact) (wf : (f : Fact) → f ∈ table → T (wellFormed 
           (of-facts same (rw (c .0) (carry (t .subject) (link a) b o l m from (e ∙ ap chain (sym p ∙ property-of t (fact (t .subject) (t .predicate) (link a)) refl)))))
           (p ∙ sym (c .1)) (λ x c. rw append-snoc (f x (b ∷ c)))
 
-      leaves : t .predicate ≡ type → w ∈ dom ∷ range ∷ [] → property a ≡ true → b .predicate ≡ w → named (b .subject) ≡ true → Shown w t a path → Shown w t b (path ++ (b ∷ []))
-      leaves y v p e u (by-result o l z f) = absurd (true≢false (sym p ∙ sym z ∙ of-type t y .1))
-      leaves y v p e u (by-data q i n s z l) =
+      leaves : t .predicate ≡ type → w ∈ dom ∷ range ∷ [] → property a ≡ true → b .predicate ≡ w → Shown w t a path → Shown w t b (path ++ (b ∷ []))
+      leaves y v p e (by-result o l z f) = absurd (true≢false (sym p ∙ sym z ∙ of-type t y .1))
+      leaves y v p e (by-data q i n s z l) =
           let c = way-on b e v in
-          let x = ap named (sym from) ∙ u in
-          let g = give-type (q .subject) (link a) (q .object) w b x v (lead-end q (link a) i n x l) m from e in
+          let g = give-type (q .subject) (link a) (q .object) w b v (lead-end q (link a) i n l) m from e in
           by-result (rw y is-type)
           (of-facts (last (c .2)) (of-fact (fact-eq _ (fact (t .subject) (t .predicate) (link b)) (start-typed w t q n y s) (sym y) (sym (c .0))) g))
           (of-type t y .1 ∙ sym (c .1)) (λ p. absurd (true≢false (sym p ∙ of-type t y .1)))
 
       go : Shown w t a path → Succeeds w a b → Shown w t b (path ++ (b ∷ []))
       go h (inl (g, e)) = chained e h
-      go h (inr (p, e, u)) =
+      go h (inr (p, e)) =
           by-cases (eqb (t .predicate) type)
-          (λ y. leaves (eqb-yes (T-of _ y)) (rw y at v) p e u h)
+          (λ y. leaves (eqb-yes (T-of _ y)) (rw y at v) p e h)
           (λ y. chained (e ∙ plain t y v ∙ ap chain (sym p)) h)
 
   show : (w : ℕ) (t : Fact) {a : Fact} {k : ℕ} → w ∈ ways t → onlyTable (t .predicate) ≡ false → (p : Path (start w t) (next w) table a k) → Shown w t a (nodes p)
@@ -269,7 +251,7 @@ module _ (table : List Fact) (wf : (f : Fact) → f ∈ table → T (wellFormed 
       by-cases (named (t .predicate))
       (λ m. let r = start-data w t q m s in
       let e = c .0 ∙ link-data t m in
-      of-fact (fact-eq (fact (q .subject) (link a) (q .object)) t (r .1) e (r .2)) (lead-end q (link a) i n (ap named e ∙ m) l))
+      of-fact (fact-eq (fact (q .subject) (link a) (q .object)) t (r .1) e (r .2)) (lead-end q (link a) i n l))
       (λ m. absurd (start-not-sp w t q n m (sym (c .1) ∙ p) s))
 
   -- the facts of a path for t, in printed order, give t

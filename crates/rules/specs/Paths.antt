@@ -40,10 +40,10 @@ unfoldable pub goesOn : ℕ → Fact → Bool
 unfolding onlyTable
 goesOn w a = not (onlyTable (a .predicate)) || eqb (a .predicate) w
 
--- on a path by w, b may follow a: it begins where a leads, and goes on from there, or leaves a property that is a name by w
+-- on a path by w, b may follow a: it begins where a leads, and goes on from there, or leaves a property by w
 unfoldable pub next : ℕ → Fact → Fact → Bool
-unfolding link property chain kindOf goesOn
-next w a b = eqb (b .subject) (link a) && (goesOn w a && eqb (b .predicate) (chain (property a)) || property a && eqb (b .predicate) w && named (b .subject))
+unfolding link property chain goesOn
+next w a b = eqb (b .subject) (link a) && (goesOn w a && eqb (b .predicate) (chain (property a)) || property a && eqb (b .predicate) w)
 
 -- what a data fact gives a type to: its subject by dom, its object by range
 unfoldable pub typed : ℕ → Fact → ℕ

@@ -44,8 +44,7 @@ pub fn follows(w: u32, a: Fact, b: Fact) -> bool
     let here = s == link_of(a);
     let on = goes_on(w, a);
     if is_property(a) {
-        let leaves = (p == w) & is_name(s);
-        here & ((on & (p == SP)) | leaves)
+        here & ((on & (p == SP)) | (p == w))
     } else {
         here & (on & (p == SC))
     }

@@ -18,7 +18,7 @@ use Rattle.facts.specs.declared.Refusal.{Refusal}
 use Rattle.facts.specs.declared.Refusal.the-variants.{Order}
 use Rattle.facts.specs.declared.Verdict.{Verdict}
 use Rattle.facts.specs.declared.Verdict.the-variants.{Sound, Faulty}
-use Rattle.facts.specs.Facts.{wellFormed, faultOf, before, orElse}
+use Rattle.facts.specs.Facts.{wellFormed, faultOf, orderOf, verdictOf, before, orElse}
 use Rattle.facts.proofs.Terms.{T-of, of-T}
 use Rattle.facts.proofs.Facts.{fault-none}
 use Rattle.table.specs.declared.Scan.the-variants.{Passes, Stops}
@@ -63,7 +63,7 @@ in-order false r e = let z : _≡_ {A = ℕ} 0 1 = cc in absurd (omega arith)
 
 -- a line earns nothing exactly where it is laid out, its fact is well-formed, and it is above the one before
 pub earns-none : (laid : Bool) (at : ℕ → Fact) (i : ℕ) → firstEarned (earns laid at i) tried ≡ Sound ↔ ((laid ≡ true) × T (wellFormed (at i)) × (above at i ≡ true))
-unfolding firstEarned earns above judged
+unfolding firstEarned earns above judged verdictOf orderOf
 earns-none false at i = (λ e. let z : _≡_ {A = ℕ} 0 1 = cc in absurd (omega arith), λ h. let z : _≡_ {A = ℕ} 0 1 = cc (h .0) in absurd (omega arith))
 earns-none true at i =
     let j = judged-line at i (at (i - 1)) (λ h. refl) in (

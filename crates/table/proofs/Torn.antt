@@ -1,16 +1,17 @@
 -- A line read field by field: it is laid out exactly where each field is one and byte 10 ends it.
 -- Assumes nothing.
-use mathlib.Core.Path.{_≡_}
-use mathlib.Core.Bool.{true, false, not, _||_, or-assoc}
+use mathlib.Core.Path.{_≡_, sym, ap, _∙_}
+use mathlib.Core.Bool.{true, false, not, _&&_, _||_, or-assoc}
 use mathlib.Core.List.{List}
 use Prim.Native.Nat.{ℕ, _+_, _*_}
 use native.Mathlib.Omega.{arith}
 use native.Mathlib.Nat.{add-assoc}
 use lib.ListN.{getD}
 use lib.Dec.{eqb}
-use borrow.Author.Tests.{ne-eqb}
+use borrow.Author.Tests.{ne-eqb, not-false}
 use Rattle.columns.specs.Fields.{fieldAt}
 use Rattle.columns.specs.Lines.{numbersAt, laidOut}
+use Rattle.columns.proofs.Fields.{both}
 use Rattle.columns.proofs.Torn as lines
 use Rattle.columns.proofs.Torn.{fieldsAt, lacking, read-line}
 use Rattle.facts.proofs.Terms.{T-of}
@@ -39,6 +40,17 @@ formed-whole f e =
 pub laid-fact : (b : List ℕ) (i : ℕ) → laidOut 3 b (16 * i) ≡ true → fact (fieldAt b (16 * i)) (fieldAt b (16 * i + 5)) (fieldAt b (16 * i + 10)) ≡ lineFact b i
 unfolding lineFact fieldsAt numbersAt
 laid-fact b i e = let r = simp add-assoc at (read-line 3 b (16 * i) e) in fact-eq _ (lineFact b i) (cc) (cc) (cc)
+
+-- a line whose fields say a well-formed fact, and which has its end, is laid out
+pub formed-laid : (b : List ℕ) (i : ℕ)
+    → wellFormed (fact (fieldAt b (16 * i)) (fieldAt b (16 * i + 5)) (fieldAt b (16 * i + 10))) && eqb (getD b (16 * i + 15) 0) 10 ≡ true
+    → (laidOut 3 b (16 * i) ≡ true) × (wellFormed (lineFact b i) ≡ true)
+unfolding lacksField
+formed-laid b i e =
+    let f : Fact = fact (fieldAt b (16 * i)) (fieldAt b (16 * i + 5)) (fieldAt b (16 * i + 10)) in
+    let x = both (wellFormed f) (eqb (getD b (16 * i + 15) 0) 10) e in
+    let laid : laidOut 3 b (16 * i) ≡ true = not-false _ (sym (torn-line b (16 * i)) ∙ rw (formed-whole f (x .0), x .1)) in
+    (laid, ap wellFormed (sym (laid-fact b i laid)) ∙ x .0)
 
 -- a refusal is no sound verdict
 pub not-sound : (r : Refusal) → Faulty r ≡ Sound → ⊥

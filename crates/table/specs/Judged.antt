@@ -1,22 +1,22 @@
 -- What a line or a fact is judged by: itself and the fact before it.
 -- Assumes nothing.
 use mathlib.Core.Path.{_≡_}
-use mathlib.Core.Bool.{Bool, cond, _||_}
+use mathlib.Core.Bool.{Bool, _||_}
 use mathlib.Core.List.{List}
 use Prim.Native.Nat.{ℕ, _+_, _-_, _*_, _≤_, _<_}
 use lib.ListN.{length}
 use lib.Dec.{eqb}
 use Rattle.facts.specs.declared.Fact.{Fact}
-use Rattle.facts.specs.declared.Refusal.the-variants.{Order}
 use Rattle.facts.specs.declared.Verdict.{Verdict}
-use Rattle.facts.specs.declared.Verdict.the-variants.{Sound, Faulty}
-use Rattle.facts.specs.Facts.{faultOf, orElse, before}
+use Rattle.facts.specs.declared.Verdict.the-variants.{Sound}
+use Rattle.facts.specs.Facts.{verdictOf, before}
 use Rattle.table.specs.declared.Judged.{Judged}
 use Rattle.table.specs.Tables.{lineFact, lineVerdict}
 
--- the first of 3 to 6 that f earns, with last the fact before it, if it is not the first
+-- the first of 3, 4, 5, 12, 6 that f earns, with last the fact before it, if it is not the first
 unfoldable pub judged : Bool → Fact → Fact → Verdict
-judged first last f = orElse (faultOf f) (cond (first || before last f) Sound (Faulty Order))
+unfolding verdictOf
+judged first last f = verdictOf (first || before last f) f
 
 -- a number is 100,000, which stands for no field
 unfoldable pub lacksField : Fact → Bool

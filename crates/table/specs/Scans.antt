@@ -1,5 +1,5 @@
 -- Which refusal a fact or a line earns, and the first line that earns one (document 01, the order of refusals: "lines
--- downward, each tried for 2, 3, 4, 5, 6 in that order over its whole width").
+-- downward, each tried for 2, 3, 4, 5, 6 in that order over its whole width"; document 02, Point 2: 12 "tried after 5 and before 6").
 -- Assumes nothing.
 use mathlib.Core.Path.{_≡_}
 use mathlib.Core.Bool.{Bool, true, false, cond, not, _||_}
@@ -8,10 +8,10 @@ use Prim.Native.Nat.{ℕ, zero, suc, _-_}
 use lib.Dec.{eqb}
 use Rattle.facts.specs.declared.Fact.{Fact}
 use Rattle.facts.specs.declared.Refusal.{Refusal}
-use Rattle.facts.specs.declared.Refusal.the-variants.{Size, Column, Term, Blank, Part, Order, Allowance, Short, Form, Step, End}
+use Rattle.facts.specs.declared.Refusal.the-variants.{Size, Column, Term, Blank, Part, Order, Allowance, Short, Form, Step, End, Class}
 use Rattle.facts.specs.declared.Verdict.{Verdict}
 use Rattle.facts.specs.declared.Verdict.the-variants.{Sound, Faulty}
-use Rattle.facts.specs.Facts.{hasNoTerm, hasBlank, misplaced, before}
+use Rattle.facts.specs.Facts.{hasNoTerm, hasBlank, misplaced, textAsClass, before}
 use Rattle.table.specs.declared.Scan.{Scan}
 use Rattle.table.specs.declared.Scan.the-variants.{Passes, Stops}
 
@@ -25,6 +25,7 @@ earns laid at i Column = not laid
 earns laid at i Term = hasNoTerm (at i)
 earns laid at i Blank = hasBlank (at i)
 earns laid at i Part = misplaced (at i)
+earns laid at i Class = textAsClass (at i)
 earns laid at i Order = not (above at i)
 earns laid at i Size = false
 earns laid at i Allowance = false
@@ -35,7 +36,7 @@ earns laid at i End = false
 
 -- the order in which a line's refusals are tried
 abbrev pub tried : List Refusal
-tried = Column ∷ Term ∷ Blank ∷ Part ∷ Order ∷ []
+tried = Column ∷ Term ∷ Blank ∷ Part ∷ Class ∷ Order ∷ []
 
 -- the first of some refusals that is earned
 unfoldable pub firstEarned : (Refusal → Bool) → List Refusal → Verdict

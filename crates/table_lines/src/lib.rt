@@ -14,37 +14,22 @@ ghost use lib.Seq.{sets};
 ghost use Rattle.table.specs.Tables.{terms, rowFact};
 ghost use Rattle.table.specs.Judged.{judged, lacksField, NextLine, LineJudged};
 
-// The first of 3 to 6 that f earns, with last the fact before it, if it is not the first.
+// The first of 3, 4, 5, 12 and 6 that f earns, with last the fact before it, if it is not the first.
 pub fn judge(first: bool, last: Fact, f: Fact) -> Verdict
     ensures { λ r. ⌜ r ≡ judged first last f ⌝ }
 {
-    let v = faults::fault(f);
-    match v {
-        Verdict::Faulty(r) => Verdict::Faulty(r),
-        Verdict::Sound => {
-            if first {
-                return Verdict::Sound;
-            }
-            if faults::comes_before(last, f) {
-                Verdict::Sound
-            } else {
-                Verdict::Faulty(Refusal::Order)
-            }
-        }
-    }
+    faults::verdict(first | faults::comes_before(last, f), f)
 }
 
-// A field of the three that were read is none. No number of a well-formed fact stands for that, so most lines need no more tests.
+// A field of the three that were read is none.
 fn lacks_field(f: Fact) -> bool
     ensures { λ r. ⌜ r ≡ lacksField f ⌝ }
 {
-    if terms::is_well_formed(f) {
-        return false;
-    }
     (f.subject == NO_FIELD) | (f.predicate == NO_FIELD) | (f.object == NO_FIELD)
 }
 
-// Reads and judges a line, with last the fact on the line before, if there is one.
+// Reads and judges a line, with last the fact on the line before, if there is one. Most lines have a well-formed fact, none of whose
+// numbers stands for no field, and are left with their order to be tried.
 pub fn judge_line(bytes: &[u8], i: usize, last: Fact) -> Judged
     requires { ⌜ NextLine (now bytes) i last ⌝ }
     ensures { λ r. ⌜ LineJudged (now (bytes .entry)) i r ⌝ }
@@ -58,6 +43,13 @@ pub fn judge_line(bytes: &[u8], i: usize, last: Fact) -> Judged
         predicate: predicate,
         object: object,
     };
+    if terms::is_well_formed(f) & (bytes[at + 15] == LINE_END) {
+        let v = faults::order((i == 0) | faults::comes_before(last, f));
+        return Judged {
+            verdict: v,
+            fact: f,
+        };
+    }
     if lacks_field(f) | (bytes[at + 15] != LINE_END) {
         return Judged {
             verdict: Verdict::Faulty(Refusal::Column),

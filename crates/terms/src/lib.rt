@@ -1,9 +1,11 @@
-// The kind of a term, whether a fact is well-formed (document 01, "Terms and facts"), and what is a gap (document 02, Point 1). Only
-// this crate tells terms apart.
+// The kind of a term, whether a fact is well-formed (document 01, "Terms and facts"; document 02, Point 2), and what is a gap (document
+// 02, Point 1). Only this crate tells terms apart.
 use facts::Fact;
 use facts::Kind;
+use facts::TYPE;
+ghost use mathlib.Core.Bool.{false};
 ghost use mathlib.Core.Path.{_≡_};
-ghost use Rattle.facts.specs.Terms.{kindOf, isNoTerm, isBlank, isName};
+ghost use Rattle.facts.specs.Terms.{kindOf, isNoTerm, isVocabulary, isName, isLiteral, isBlank};
 ghost use Rattle.facts.specs.Facts.{isNode, isPredicate, wellFormed};
 ghost use Rattle.facts.specs.Gaps.{isGap};
 
@@ -66,6 +68,34 @@ pub fn is_blank(k: Kind) -> bool
     }
 }
 
+// One of the vocabulary.
+pub fn is_vocabulary(k: Kind) -> bool
+    ensures { λ r. ⌜ r ≡ isVocabulary k ⌝ }
+{
+    match k {
+        Kind::Vocabulary => true,
+        Kind::NoTerm => false,
+        Kind::Name => false,
+        Kind::Literal => false,
+        Kind::BlankNode => false,
+        Kind::Beyond => false,
+    }
+}
+
+// A literal.
+pub fn is_literal(k: Kind) -> bool
+    ensures { λ r. ⌜ r ≡ isLiteral k ⌝ }
+{
+    match k {
+        Kind::Literal => true,
+        Kind::NoTerm => false,
+        Kind::Vocabulary => false,
+        Kind::Name => false,
+        Kind::BlankNode => false,
+        Kind::Beyond => false,
+    }
+}
+
 // A name.
 fn is_name_kind(k: Kind) -> bool
     ensures { λ r. ⌜ r ≡ isName k ⌝ }
@@ -94,9 +124,9 @@ pub fn is_gap(n: u32) -> bool
     is_blank(kind_of(n))
 }
 
-// What may be a subject or an object: a name or a literal.
+// A name or a literal.
 fn is_node(n: u32) -> bool
-    ensures { λ r. ⌜ r ≡ isNode n ⌝ }
+    ensures { λ r. ⌜ r ≡ isNode false n ⌝ }
 {
     (NAME_FIRST <= n) & (n < BLANK_FIRST)
 }
@@ -108,9 +138,16 @@ fn is_predicate(n: u32) -> bool
     (0 < n) & (n < LITERAL_FIRST)
 }
 
-// The fact is well-formed.
+// The fact is well-formed: names may stand on both sides of every predicate, a literal as subject of type and on both sides of a name.
 pub fn is_well_formed(f: Fact) -> bool
     ensures { λ r. ⌜ r ≡ wellFormed f ⌝ }
 {
-    is_node(f.subject) & is_predicate(f.predicate) & is_node(f.object)
+    let p = f.predicate;
+    if is_name(f.object) {
+        if is_name(f.subject) {
+            return is_predicate(p);
+        }
+        return is_literal(kind_of(f.subject)) & (is_name(p) | (p == TYPE));
+    }
+    is_literal(kind_of(f.object)) & is_name(p) & is_node(f.subject)
 }

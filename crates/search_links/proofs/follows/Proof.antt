@@ -16,12 +16,9 @@ goes-on-requires c κs = search needs
 is-property-requires : tie.Need-is-property-requires
 is-property-requires c κs = search needs
 
-is-name-requires : tie.Need-is-name-requires
-is-name-requires c κs = search needs
-
 returns : tie.Need-returns
 unfolding next chain
-returns c = rw (c .before .before .before .before .link-of .ensures, c .before .before .before .goes-on .ensures, c .is-name .ensures, sym (c .before .before .is-property .ensures) ∙ c .before .if1 .taken)
+returns c = rw (c .before .before .before .link-of .ensures, c .before .before .goes-on .ensures, sym (c .before .is-property .ensures) ∙ c .if1 .taken)
 
 returns-2 : tie.Need-returns-2
 unfolding next chain
@@ -29,4 +26,4 @@ returns-2 c = rw (c .before .before .before .link-of .ensures, c .before .before
 
 pub follows-spec : {M : Type 1} → statement M
 follows-spec =
-    tie.close (tie.spec link-of-requires goes-on-requires is-property-requires is-name-requires returns returns-2)
+    tie.close (tie.spec link-of-requires goes-on-requires is-property-requires returns returns-2)
