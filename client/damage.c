@@ -32,13 +32,27 @@ static void repeat(size_t at) {
     replace(at, 0, piece, n);
 }
 
-/* One change: text put in or over, bytes taken away, the end cut off, a byte 0, a line or its rest repeated, another digit. */
+static int has_digit(size_t at) { return at < len && bytes[at] >= '0' && bytes[at] <= '9'; }
+
+/* Puts a literal for the number at `at` or the next one behind it; where that has five columns, the literal takes them. */
+static void put_literal(size_t at) {
+    while (at < len && !has_digit(at)) at++;
+    while (at > 0 && has_digit(at) && has_digit(at - 1)) at--;
+    size_t end = at, column = at;
+    while (has_digit(end)) end++;
+    while (column > 0 && end - column < 5 && bytes[column - 1] == ' ') column--;
+    if (end - column == 5) at = column;
+    if (at < end) replace(at, end - at, "40001", 5);
+}
+
+/* One change: text put in or over, bytes taken away, the end cut off, a byte 0, a line or its rest repeated, a literal in a
+ * number's place, another digit. */
 static void change(void) {
     static const char *const texts[] = {" ", "\n", "\r", "\t", "#", "0", "9", "x", "\xef\xbb\xbf", "\xff", ",", ";",
                                         "\r\n", "    0", "65536", "type", "?", "60000"};
     size_t at = below(len + 1), rest = len - at, few = rest < 4 ? rest : 4;
     const char *text = texts[below(sizeof texts / sizeof *texts)];
-    switch (below(9)) {
+    switch (below(10)) {
     case 0: replace(at, 0, text, strlen(text)); break;
     case 1: replace(at, strlen(text) < rest ? strlen(text) : rest, text, strlen(text)); break;
     case 2: replace(at, below(few + 1), "", 0); break;
@@ -49,6 +63,7 @@ static void change(void) {
         while (at > 0 && bytes[at - 1] != '\n') at--;
         repeat(at);
         break;
+    case 7: put_literal(at); break;
     default:
         while (at < len && (bytes[at] < '1' || bytes[at] > '9')) at++;
         if (at < len) bytes[at] = (char)('0' + below(10));

@@ -6,8 +6,15 @@
  *
  *   1 subclass, 2 subproperty, 3 domain, 4 range, 5 type      the vocabulary: predicates only
  *   6 to 39999                                                 names: subject, predicate or object
- *   40000 to 59999                                             literals: subject or object
+ *   40000 to 59999                                             literals: subject or object, where the predicate allows it
  *   60000 to 65535                                             blank nodes: a gap in a question; refused anywhere else
+ *
+ * What may stand beside a predicate, in a table as in a question or a derivation:
+ *
+ *   predicate                                    subject             object
+ *   subclass, subproperty, domain, range         a name              a name
+ *   type                                         a name or literal   a name
+ *   a name                                       a name or literal   a name or literal
  *
  * A fact follows from a table if the table has it or if one of six rules gives it, from facts that follow. A rule has two
  * premises, in this order, and one result; all three must be facts as above. In the rules sc stands for predicate 1
@@ -31,7 +38,8 @@
  *   object
  *
  * A question may have a gap: one blank node, as subject or object. (FACTBOX_GAP 5 12) asks whether some X is of type 12. Any
- * of 60000 to 65535 asks the same; the number has no meaning. A filling is a name or a literal put in the gap's place.
+ * of 60000 to 65535 asks the same; the number has no meaning. A filling is a name or a literal put in the gap's place, if
+ * it may stand there by the list above.
  * - Yes: with some filling the triple follows, and it names one that needs as few table facts as any; where several need
  *   equally few, one of them. That number is the count, and the derivation ends in the triple with this filling.
  * - Long: with some filling the triple follows, but with each it needs more table facts than allowed. The count is the
@@ -53,7 +61,7 @@
  * - It ends, whatever it is given, and it needs no test of its input beforehand: what is wrong gets a refusal.
  * - The result has four numbers: number, place, count, filling (factbox_number, factbox_place, factbox_count,
  *   factbox_filling). The filling is 0 but for a yes to a question with a gap.
- * - A refusal (1 to 11) has count 0 and changes no lent memory.
+ * - A refusal (1 to 12) has count 0 and changes no lent memory.
  * - What is done is written from the front of the lent memory; what lies behind it keeps its value.
  * - A pointer may be NULL where its length is 0. Bytes may lie at any address; a row must be aligned for uint32_t.
  * - `output` and `row` that are written must not overlap what the same call reads: no overlap is tested for.
@@ -86,6 +94,8 @@ enum {
     FACTBOX_FORM = 9,       /* a derivation of 0 bytes, not a multiple of 31, or above 63,457; or, with its line as place, a badly laid out line */
     FACTBOX_STEP = 10,      /* a line is neither a table line nor a rule's result; place: the first such line */
     FACTBOX_END = 11,       /* the last line is not the triple put; place: the last line */
+    FACTBOX_CLASS = 12,     /* a literal as subject or object of subclass, subproperty, domain or range, or as object of type;
+                             * tried after 5 and before 6; place: the line, or 0 for the triple put */
     FACTBOX_YES = 90,       /* the triple follows, from no more table facts than allowed; count: the fewest it follows from;
                              * filling: what fills the gap, 0 without one */
     FACTBOX_NO = 91,        /* the triple does not follow; with a gap, it follows with no filling; count: 0 */
@@ -116,8 +126,8 @@ enum {
  * Subject or object may be a gap: then the count is the fewest over all fillings, and YES names a filling that has this count.
  * `limit` is the allowance: how many table facts it may take, 0 to 1,024. `output` has at least factbox_output_size(limit)
  * bytes. YES writes 2 * count - 1 lines of 31 bytes; nothing else writes.
- * Tried in this order: the table (1; then its lines, each for 2, 3, 4, 5, 6); the triple, for 3 in all its terms, then 4 (a
- * blank node as predicate, or two blank nodes, equal or not), then 5 in the terms that are no gap; 7; 8. */
+ * Tried in this order: the table (1; then its lines, each for 2, 3, 4, 5, 12, 6); the triple, for 3 in all its terms, then 4
+ * (a blank node as predicate, or two blank nodes, equal or not), then 5 and then 12 in the terms that are no gap; 7; 8. */
 uint64_t factbox_question(const uint8_t *table, size_t table_len,
                           uint32_t subject, uint32_t predicate, uint32_t object,
                           uint32_t limit, uint8_t *output, size_t output_len);
@@ -125,7 +135,7 @@ uint64_t factbox_question(const uint8_t *table, size_t table_len,
 /* Whether the derivation is one of (subject predicate object) from the table. Unused lines and any sound order are accepted.
  * The count has all table lines, used or not; a fact that stands on two lines counts twice. It takes no gap: for a question
  * that had one, put the triple with its filling.
- * Tried in this order: the table, the triple (3; 4, for any blank node; 5), 9 over all lines, 10, 11. */
+ * Tried in this order: the table, the triple (3; 4, for any blank node; 5; 12), 9 over all lines, 10, 11. */
 uint64_t factbox_check(const uint8_t *table, size_t table_len,
                        uint32_t subject, uint32_t predicate, uint32_t object,
                        const uint8_t *derivation, size_t derivation_len);
@@ -135,7 +145,7 @@ uint64_t factbox_check(const uint8_t *table, size_t table_len,
 uint64_t factbox_read(const uint8_t *table, size_t table_len, uint32_t *row, size_t row_len);
 
 /* Writes a row of three numbers a fact as a table. `row_len` is in numbers. The place of a refusal is the fact's number.
- * Tried in this order: 1; then the facts, each for 3, 4, 5, 6; 8. */
+ * Tried in this order: 1; then the facts, each for 3, 4, 5, 12, 6; 8. */
 uint64_t factbox_write(const uint32_t *row, size_t row_len, uint8_t *output, size_t output_len);
 
 /* The parts of a result: bits 0-7 number, 8-31 place, 32-47 count, 48-63 filling. */

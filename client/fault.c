@@ -1,6 +1,6 @@
 /* What is probably wrong with a table that the box refuses: see fault.h.
  *
- * Refusal 1 has no place: its line is the first that is not 16 bytes long, or line 1,025. Refusals 2 to 6 have a place. As
+ * Refusal 1 has no place: its line is the first that is not 16 bytes long, or line 1,025. Refusals 2 to 6 and 12 have a place. As
  * every line above it is 16 bytes long, it is the line that a person counts. */
 #include "fault.h"
 #include "factbox.h"

@@ -66,12 +66,13 @@ static int refuse_question(unsigned number, const uint32_t *question, const line
 /* Shows that the check refused; if the triple, why. The table was sound, so the place is a line of the derivation. */
 static int refuse_derivation(uint64_t result, const uint32_t *fact) {
     unsigned number = factbox_number(result), place = factbox_place(result);
+    int of_triple = number == FACTBOX_CLASS || (number >= FACTBOX_TERM && number <= FACTBOX_PART);
     int gap = number == FACTBOX_BLANK && !is_blank(fact[1]);
     answer("REFUSED", RED, fact_words(fact));
     printf("%u %s", number, refusal_words(number));
     if (place > 0) printf(" (derivation line %u)", place);
     printf("\n");
-    if (number >= FACTBOX_TERM && number <= FACTBOX_PART) printf("  %s%s\n", fact_fault(number, fact), gap ? NAMED : "");
+    if (of_triple) printf("  %s%s\n", fact_fault(number, fact), gap ? NAMED : "");
     return REFUSED;
 }
 

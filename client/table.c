@@ -48,7 +48,7 @@ static void complain(const char *name, unsigned line, const char *what) {
 
 /* Says that the box refuses a fact, which one of its fields earns that, and where it was read. */
 static void complain_refused(const entry *e, unsigned number) {
-    char text[256];
+    char text[320];
     const char *field = fact_fault(number, e->fact);
     snprintf(text, sizeof text, "%u %s%s%s", number, refusal_words(number), *field ? ": " : "", field);
     complain(e->name, e->line, text);

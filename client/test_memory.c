@@ -151,11 +151,27 @@ static void gap_writes_its_lines(void) {
     EXPECT(untouched(a, out, 0));
 }
 
+/* A literal where a class belongs, in the table, in the triple or in the row: no call writes. */
+static void class_writes_nothing(void) {
+    static const uint8_t table[] = EXAMPLE_TABLE, refused[] = "   10   13   20\n   11    140000\n";
+    static const uint32_t row[] = {10, 13, 20, 11, 1, 40000};
+    arena a = new_arena();
+    uint8_t *out = lend(a, 31 * 7, 0, 3);
+    EXPECT(factbox_question(refused, 32, 10, 13, 20, 4, out, 31 * 7) == (FACTBOX_CLASS | 2 << 8));
+    EXPECT(factbox_question(refused, 32, FACTBOX_GAP, 13, 20, 4, out, 31 * 7) == (FACTBOX_CLASS | 2 << 8));
+    EXPECT(factbox_question(table, 64, 10, 5, 40000, 4, out, 31 * 7) == FACTBOX_CLASS);
+    EXPECT(factbox_question(table, 64, FACTBOX_GAP, 5, 40000, 4, out, 31 * 7) == FACTBOX_CLASS);
+    EXPECT(factbox_read(refused, 32, (uint32_t *)(void *)a.begin, 6) == (FACTBOX_CLASS | 2 << 8));
+    EXPECT(factbox_write(row, 6, out, 32) == (FACTBOX_CLASS | 2 << 8));
+    EXPECT(untouched(a, out, 0));
+}
+
 int main(void) {
     static const uint32_t sizes[] = {0, 1, 2, 3, 7, 64, 1023, 1024};
     guard_page_faults();
     empty_and_null();
     gap_writes_its_lines();
+    class_writes_nothing();
     for (size_t i = 0; i < sizeof sizes / sizeof *sizes; i++) {
         placed(sizes[i], (place){1, 0});
         for (size_t shift = 0; shift < 16; shift++) placed(sizes[i], (place){0, shift});

@@ -87,6 +87,7 @@ static void calls(uint32_t s, uint32_t p, uint32_t o, uint32_t count) {
     EXPECT(measure((job){.which = READ}) == FACTBOX_DONE);
     EXPECT(measure((job){.which = QUESTION, .fact = {s, p, 39999}, .limit = 1024}) == FACTBOX_NO);
     EXPECT(measure((job){.which = QUESTION, .fact = {FACTBOX_GAP, p, FACTBOX_GAP}, .limit = 1024}) == FACTBOX_BLANK);
+    EXPECT(measure((job){.which = QUESTION, .fact = {s, 1, 40000}, .limit = 1024}) == FACTBOX_CLASS);
     EXPECT(measure((job){.which = QUESTION, .fact = {FACTBOX_GAP, p, 39999}, .limit = 1024}) == FACTBOX_NO);
     EXPECT(measure((job){.which = QUESTION, .fact = {FACTBOX_GAP, p, o}, .limit = 0}) == FACTBOX_LONG);
     EXPECT(measure((job){.which = QUESTION, .fact = {FACTBOX_GAP, p, o}, .limit = 1024}) == FACTBOX_YES);

@@ -31,6 +31,13 @@ static const char *const REFUSALS[] = {
     "form: the derivation is empty, torn, too long or not laid out as lines",
     "step: neither a table line nor what the rule gives",
     "end: the last line is not the fact put",
+    "class: a literal as subject or object of subclass, subproperty, domain or range, or as object of type",
+};
+
+/* What belongs in the fields of a fact with each predicate of the vocabulary, where no literal may stand. */
+static const char *const BELONGS[][3] = {
+    {NULL, NULL, NULL}, {"class", NULL, "class"}, {"property", NULL, "property"}, {"property", NULL, "class"},
+    {"property", NULL, "class"}, {NULL, NULL, "class"},
 };
 
 int asks_for_help(int argc, char **argv) {
@@ -65,25 +72,40 @@ const char *question_refusal(unsigned number) {
 
 int is_blank(uint32_t term) { return term >= BLANK_FIRST && term <= TERM_LAST; }
 
-/* Why a number in this field earns this refusal; NULL if it does not. */
-static const char *number_fault(unsigned number, size_t field, uint32_t value) {
-    int vocabulary = value >= 1 && value <= VOCABULARY_LAST, literal = value >= LITERAL_FIRST && value < BLANK_FIRST;
+static int is_literal(uint32_t term) { return term >= LITERAL_FIRST && term < BLANK_FIRST; }
+
+/* Why the fact's number in this field earns refusal 12, and what belongs there; NULL if it does not. */
+static const char *class_fault(const uint32_t *fact, size_t field) {
+    static char text[128];
+    uint32_t predicate = fact[1];
+    const char *what = predicate <= VOCABULARY_LAST ? BELONGS[predicate][field] : NULL;
+    if (!what || !is_literal(fact[field])) return NULL;
+    snprintf(text, sizeof text, "is a literal (40000 to 59999); the %s of %s is a %s: put its own number, a name (6 to 39999)",
+             FIELD_NAMES[field], VOCABULARY[predicate], what);
+    return text;
+}
+
+/* Why the fact's number in this field earns this refusal; NULL if it does not. */
+static const char *number_fault(unsigned number, const uint32_t *fact, size_t field) {
+    uint32_t value = fact[field];
+    int vocabulary = value >= 1 && value <= VOCABULARY_LAST;
     switch (number) {
     case FACTBOX_TERM: return value == 0 ? "is no term" : value > TERM_LAST ? "is above 65535" : NULL;
     case FACTBOX_BLANK:
         if (!is_blank(value)) return NULL;
         return field == 1 ? "is a blank node (60000 to 65535), which can't be a predicate"
                           : "is a blank node (60000 to 65535), which only a question may have";
+    case FACTBOX_CLASS: return class_fault(fact, field);
     default:
-        if (field == 1) return literal ? "is a literal (40000 to 59999): a predicate is a name or 1 to 5" : NULL;
+        if (field == 1) return is_literal(value) ? "is a literal (40000 to 59999): a predicate is a name or 1 to 5" : NULL;
         return vocabulary ? "is vocabulary (1 to 5), which can only be a predicate" : NULL;
     }
 }
 
 const char *fact_fault(unsigned number, const uint32_t *fact) {
-    static char text[128];
+    static char text[192];
     for (size_t i = 0; i < 3; i++) {
-        const char *why = number_fault(number, i, fact[i]);
+        const char *why = number_fault(number, fact, i);
         if (!why) continue;
         snprintf(text, sizeof text, "the %s, %u, %s", FIELD_NAMES[i], (unsigned)fact[i], why);
         return text;

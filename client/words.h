@@ -30,13 +30,13 @@ const char *refusal_words(unsigned number);
 /* The same of a question, where a blank node is a gap. */
 const char *question_refusal(unsigned number);
 
-/* Which field of the fact earns refusal 3, 4 or 5, and why. The text holds until the next call. */
+/* Which field of the fact earns refusal 3, 4, 5 or 12, and why. The text holds until the next call. */
 const char *fact_fault(unsigned number, const uint32_t *fact);
 
 /* Whether a term is blank: in a question, a gap. */
 int is_blank(uint32_t term);
 
-/* Why a question, a triple and its allowance, earns refusal 3, 4, 5 or 7. The text holds until the next call. */
+/* Why a question, a triple and its allowance, earns refusal 3, 4, 5, 12 or 7. The text holds until the next call. */
 const char *question_fault(unsigned number, const uint32_t *question);
 
 /* A fact in words: "10 type 12". The text holds until the next call. */
