@@ -95,16 +95,27 @@ static void dense(const uint32_t *name, unsigned n, sample *s) {
     put(s, name[0], SC, name[nodes]);
 }
 
-/* an sp chain through literals */
-static void literal_chain(const uint32_t *name, unsigned n, sample *s) {
-    uint32_t last = name[0];
-    add(name[1], last, name[2]);
-    for (unsigned i = 0; count < n; i++) {
-        uint32_t next = count + 1 < n ? LITERAL + name[10 + i] % 20000 : name[3];
-        add(last, SP, next);
-        last = next;
+/* a literal for each name */
+static uint32_t literal(uint32_t name) { return LITERAL + name % 20000; }
+
+/* a fact with a literal as object, and sp facts: all of them used */
+static void literal_by_sp(const uint32_t *name, unsigned n, sample *s) {
+    const uint32_t thing = name[NAMES - 1], value = literal(name[NAMES - 2]);
+    add(thing, name[0], value);
+    put(s, thing, chain(name, 0, n - 1, SP), value);
+}
+
+/* half of the facts have literals: values of things, and types of literals; one value has its class by an sp chain, a range and
+ * an sc chain */
+static void literal_values(const uint32_t *name, unsigned n, sample *s) {
+    const uint32_t *class = name, *property = name + 500, *thing = name + 1000;
+    const unsigned things = n / 4, links = n - 2 * things - 1;
+    for (unsigned i = 0; i < things; i++) {
+        add(thing[i], property[i % 8 ? 400 + i % 8 : 0], literal(thing[i % 4]));
+        add(literal(thing[i]), TYPE, class[400 + i % 8]);
     }
-    put(s, name[1], last, name[2]);
+    add(chain(property, 0, links / 2, SP), RANGE, class[0]);
+    put(s, literal(thing[0]), TYPE, chain(class, 0, links - links / 2, SC));
 }
 
 /* things with properties and types, properties with domains and ranges, a tree of classes, a tree of properties */
@@ -264,8 +275,8 @@ static void subject_no(const uint32_t *name, unsigned n, sample *s) {
 }
 
 /* (x p ?) */
-static void object_by_literals(const uint32_t *name, unsigned n, sample *s) {
-    literal_chain(name, n, s);
+static void object_literal(const uint32_t *name, unsigned n, sample *s) {
+    literal_by_sp(name, n, s);
     s->object = GAP;
 }
 static void object_predicate_each(const uint32_t *name, unsigned n, sample *s) {
@@ -303,7 +314,8 @@ static const family without_gap[] = {
     {"many types, one class", many_types},
     {"dense graph", dense},
     {"no answer", no_answer},
-    {"literal chain", literal_chain},
+    {"sp chain, literal value", literal_by_sp},
+    {"literal values, range", literal_values},
     {"ordinary data", ordinary},
 };
 static const family with_gap[] = {
@@ -327,7 +339,7 @@ static const family with_gap[] = {
     {"? p y, half data, half chain", subject_by_chain},
     {"? p y, a predicate each", subject_predicate_each},
     {"? p y, no answer", subject_no},
-    {"x p ?, literal chain", object_by_literals},
+    {"x p ?, sp chain, literal value", object_literal},
     {"x p ?, a predicate each", object_predicate_each},
     {"x p ?, no answer", object_no},
     {"? sc c", subclass},

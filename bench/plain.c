@@ -27,15 +27,17 @@ static int is_name(uint32_t t) { return t - NAME_FIRST < LITERAL_FIRST - NAME_FI
 
 static int is_blank(uint32_t t) { return t >= BLANK_FIRST; }
 
-/* The first of refusals 3, 4, 5, or 0. */
+/* The first of refusals 3, 4, 5, 12, or 0. */
 static unsigned fault(uint32_t s, uint32_t p, uint32_t o) {
 #ifdef TUNED
-    const uint32_t nodes = BLANK_FIRST - NAME_FIRST;
-    if (s - NAME_FIRST < nodes && p - 1 < LITERAL_FIRST - 1 && o - NAME_FIRST < nodes) return 0;
+    const uint32_t names = LITERAL_FIRST - NAME_FIRST, nodes = BLANK_FIRST - NAME_FIRST;
+    if (s - NAME_FIRST < names && p - 1 < LITERAL_FIRST - 1 && o - NAME_FIRST < names) return 0;
+    if (s - NAME_FIRST < nodes && is_name(p) && o - NAME_FIRST < nodes) return 0;
 #endif
     if (s - 1 >= TERM_LAST || p - 1 >= TERM_LAST || o - 1 >= TERM_LAST) return 3;
     if (s >= BLANK_FIRST || p >= BLANK_FIRST || o >= BLANK_FIRST) return 4;
-    return s < NAME_FIRST || o < NAME_FIRST || p >= LITERAL_FIRST ? 5 : 0;
+    if (s < NAME_FIRST || o < NAME_FIRST || p >= LITERAL_FIRST) return 5;
+    return (o >= LITERAL_FIRST && p <= TYPE) || (s >= LITERAL_FIRST && p < TYPE) ? 12 : 0;
 }
 
 /* The same for a question, where one of subject and object may be a gap: a name in its place tells of the other two terms. */
@@ -190,7 +192,7 @@ static int find(search *x) {
         int goal;
         if (is_name(q) || q == SP) {
             uint32_t link = q == SP ? o : q;
-            if (p == TYPE && is_name(link) && (goal = visit(x, link, side ? RANGE : DOM, 0, from, 1)) >= 0) return goal;
+            if (p == TYPE && (goal = visit(x, link, side ? RANGE : DOM, 0, from, 1)) >= 0) return goal;
             if ((goal = visit(x, link, SP, side, from, p != TYPE)) >= 0) return goal;
         } else if ((goal = visit(x, o, SC, 0, from, 1)) >= 0) {
             return goal;
@@ -200,12 +202,12 @@ static int find(search *x) {
 }
 
 /* With a gap nearly every fact may be a start, so each costs one look into the table. Adds the facts that may follow one which
- * leads to the property `link`: sp facts, and for a type, if the link is a name, the facts that give one on this side. They
- * stand together in the table. Gives the node of the goal, or -1; where the goal is the gap, any class will do. */
+ * leads to the property `link`: sp facts, and for a type the facts that give one on this side. They stand together in the
+ * table. Gives the node of the goal, or -1; where the goal is the gap, any class will do. */
 static int visit_property(search *x, uint32_t link, unsigned side, uint16_t from) {
     const fact *f = x->facts;
-    uint32_t end = predicate_of(x->triple) != TYPE ? SP : side ? RANGE : DOM, last = is_name(link) ? end : SP;
-    fact behind = make(link, last + 1, 0);
+    uint32_t end = predicate_of(x->triple) != TYPE ? SP : side ? RANGE : DOM;
+    fact behind = make(link, end + 1, 0);
     for (size_t i = lower(f, x->n, make(link, SP, 0)); i < x->n && f[i] < behind; i++) {
         uint32_t q = predicate_of(f[i]);
         if (q != SP && q != end) continue;
@@ -380,7 +382,7 @@ static int read_line(const uint8_t *at, line *l) {
         && field(at + 20, &l->p) && field(at + 25, &l->o) && at[30] == '\n';
 }
 
-/* Rule l->rule gives l from p and q. */
+/* Rule l->rule gives l from p and q. These are well-formed, and so is then what they give. */
 static int gives(const line *l, const line *p, const line *q) {
     switch (l->rule) {
     case 1:
@@ -388,7 +390,7 @@ static int gives(const line *l, const line *p, const line *q) {
         uint32_t chain = l->rule == 1 ? SP : SC;
         return p->p == chain && q->p == chain && l->p == chain && p->o == q->s && l->s == p->s && l->o == q->o;
     }
-    case 2: return p->p == SP && p->s == q->p && is_name(p->o) && l->s == q->s && l->p == p->o && l->o == q->o;
+    case 2: return p->p == SP && p->s == q->p && l->s == q->s && l->p == p->o && l->o == q->o;
     case 4: return p->p == SC && q->p == TYPE && p->s == q->o && l->s == q->s && l->p == TYPE && l->o == p->o;
     case 5: return p->p == DOM && p->s == q->p && l->s == q->s && l->p == TYPE && l->o == p->o;
     case 6: return p->p == RANGE && p->s == q->p && l->s == q->o && l->p == TYPE && l->o == p->o;

@@ -25,7 +25,7 @@ SIZES = [64, 128, 256, 512, 1024]
 PROGRAM_INPUTS = [(1024, 779), (78, 1500)]
 # a 'rep stosb' is one instruction of the processor, but valgrind counts one for each byte: memset is to use plain stores
 TUNABLES = "glibc.cpu.x86_rep_stosb_threshold=1000000000:glibc.cpu.x86_rep_movsb_threshold=1000000000"
-COLOURS = ["#1b6ca8", "#d1495b", "#2e8b57", "#b8860b", "#6a4c93", "#e07a1f", "#444444", "#17a2a2", "#a0522d"]
+COLOURS = ["#1b6ca8", "#d1495b", "#2e8b57", "#b8860b", "#6a4c93", "#e07a1f", "#444444", "#17a2a2", "#a0522d", "#c71585"]
 
 
 def output(*command, **more):
