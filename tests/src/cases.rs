@@ -1,5 +1,5 @@
-//! The papers' own cases: document 01's twelve table questions, its further ones to run, and the program's example; and
-//! questions with a gap (document 02, Point 1), with what easily goes wrong there.
+//! The papers' own cases: document 01's twelve table questions, its further ones to run, and the program's example; questions with
+//! a gap (document 02, Point 1); and literals where a class or a property belongs (Point 2), with what easily goes wrong there.
 use crate::calls::Calls;
 use crate::compare::{compare, Input};
 use crate::facts::*;
@@ -38,6 +38,10 @@ const fn yes(count: u32, filling: u32) -> Answer {
     Answer { number: YES, place: 0, count, filling }
 }
 
+/// The tables of cases h and i: a literal stands as object of sp, and as subject of sp or of dom.
+const H: [Fact; 3] = [[6, 7, 8], [7, 2, 40000], [40000, 2, 9]];
+const I: [Fact; 3] = [[6, 7, 8], [7, 2, 40000], [40000, 3, 9]];
+
 pub const CASES: &[Case] = &[
     ("a", &[], [10, 1, 11], 4, answer(NO, 0, 0)),
     ("b", &T, [10, 5, 12], 4, answer(YES, 0, 4)),
@@ -47,19 +51,19 @@ pub const CASES: &[Case] = &[
     ("e", &T, [12, 1, 12], 4, answer(NO, 0, 0)),
     ("f", &[[10, 1, 11], [11, 1, 10]], [10, 1, 10], 4, answer(YES, 0, 2)),
     ("g", &T, [13, 3, 11], 4, answer(NO, 0, 0)),
-    ("h", &[[6, 7, 8], [7, 2, 40000], [40000, 2, 9]], [6, 9, 8], 4, answer(YES, 0, 3)),
-    ("i", &[[6, 7, 8], [7, 2, 40000], [40000, 3, 9]], [6, 5, 9], 4, answer(NO, 0, 0)),
+    ("h", &H, [6, 9, 8], 4, answer(12, 2, 0)),
+    ("i", &I, [6, 5, 9], 4, answer(12, 2, 0)),
     ("j", &[[6, 5, 10], [6, 7, 8], [7, 3, 10]], [6, 5, 10], 4, answer(YES, 0, 1)),
     ("k", &[[10, 1, 11], [10, 1, 11]], [10, 1, 11], 4, answer(6, 2, 0)),
     ("l", &T, [5, 1, 10], 4, answer(5, 0, 0)),
     ("predicate 39999", &[], [10, 39999, 11], 4, answer(NO, 0, 0)),
     ("predicate 40000", &[], [10, 40000, 11], 4, answer(5, 0, 0)),
-    ("object 59999", &[], [10, 1, 59999], 4, answer(NO, 0, 0)),
+    ("object 59999", &[], [10, 13, 59999], 4, answer(NO, 0, 0)),
     ("object 60000, a gap", &[], [10, 1, 60000], 4, answer(NO, 0, 0)),
     ("object 65536", &[], [10, 1, 65536], 4, answer(3, 0, 0)),
     ("line, predicate 39999", &[[10, 39999, 11]], [10, 39999, 11], 4, answer(YES, 0, 1)),
     ("line, predicate 40000", &[[10, 40000, 11]], [10, 1, 11], 4, answer(5, 1, 0)),
-    ("line, object 59999", &[[10, 1, 59999]], [10, 1, 59999], 4, answer(YES, 0, 1)),
+    ("line, object 59999", &[[10, 13, 59999]], [10, 13, 59999], 4, answer(YES, 0, 1)),
     ("line, object 60000", &[[10, 1, 60000]], [10, 1, 11], 4, answer(4, 1, 0)),
     ("line, object 65536", &[[10, 1, 65536]], [10, 1, 11], 4, answer(3, 1, 0)),
 ];
@@ -113,9 +117,12 @@ pub const GAPS: &[Case] = &[
     ("the smallest object", &[[6, 8, 9], [6, 10, 11], [8, 2, 10]], [6, 10, 60000], 4, yes(1, 11)),
     ("a literal by range", &[[6, 7, 40000], [7, 4, 9]], [60000, 5, 9], 4, yes(2, 40000)),
     ("a literal subject", &[[59999, 7, 6]], [60000, 7, 6], 4, yes(1, 59999)),
-    ("a literal class", &[[6, 1, 40000]], [6, 1, 60000], 4, yes(1, 40000)),
-    ("h with a gap", &[[6, 7, 8], [7, 2, 40000], [40000, 2, 9]], [6, 9, 60000], 4, yes(3, 8)),
-    ("i with a gap", &[[6, 7, 8], [7, 2, 40000], [40000, 3, 9]], [60000, 5, 9], 4, no()),
+    ("a literal object", &[[6, 7, 59999]], [6, 7, 60000], 4, yes(1, 59999)),
+    ("a literal lifted", &[[7, 2, 8], [40000, 7, 40001]], [40000, 8, 60000], 4, yes(2, 40001)),
+    ("a literal of a type", &[[40000, 5, 6]], [60000, 5, 6], 4, yes(1, 40000)),
+    ("a literal of a class above", &[[6, 1, 7], [40000, 5, 6]], [60000, 5, 7], 4, yes(2, 40000)),
+    ("a literal's type", &[[40000, 5, 6]], [40000, 5, 60000], 4, yes(1, 6)),
+    ("a literal's type by domain", &[[7, 3, 9], [40000, 7, 6]], [40000, 5, 60000], 4, yes(2, 9)),
     ("j with a gap", &[[6, 5, 10], [6, 7, 8], [7, 3, 10]], [60000, 5, 10], 4, yes(1, 6)),
     ("k with a gap", &[[10, 1, 11], [10, 1, 11]], [60000, 1, 11], 4, answer(6, 2, 0)),
     ("a blank in the table", &[[10, 1, 60000]], [10, 1, 60000], 4, answer(4, 1, 0)),
@@ -151,19 +158,85 @@ pub const TIES: &[Case] = &[
     ("the class itself, where it stands behind", &[[10, 1, 11], [11, 1, 10], [11, 1, 11]], [60000, 1, 11], 4, yes(1, 10)),
 ];
 
-/// The cases with a gap as questions to compare by.
-pub fn gaps() -> impl Iterator<Item = Input> {
+/// A literal where a class or a property belongs, in tables and in questions: refusal 12, after 5 and before 6, 7 and 8.
+pub const CLASSES: &[Case] = &[
+    ("h under allowance 0", &H, [6, 9, 8], 0, answer(12, 2, 0)),
+    ("h under allowance 1,024", &H, [6, 9, 8], 1024, answer(12, 2, 0)),
+    ("h under allowance 1,025", &H, [6, 9, 8], 1025, answer(12, 2, 0)),
+    ("i under allowance 0", &I, [6, 5, 9], 0, answer(12, 2, 0)),
+    ("i, a question that is refused", &I, [0, 60000, 5], 1025, answer(12, 2, 0)),
+    ("h with a gap", &H, [6, 9, 60000], 4, answer(12, 2, 0)),
+    ("i with a gap", &I, [60000, 5, 9], 4, answer(12, 2, 0)),
+    ("h with the gap that its literal would fill", &H, [7, 2, 60000], 4, answer(12, 2, 0)),
+    ("line, subject of sc", &[[40000, 1, 6]], [6, 1, 7], 4, answer(12, 1, 0)),
+    ("line, object of sc", &[[6, 1, 40000]], [6, 1, 60000], 4, answer(12, 1, 0)),
+    ("line, subject of sp", &[[59999, 2, 6]], [6, 1, 7], 4, answer(12, 1, 0)),
+    ("line, object of sp", &[[6, 2, 59999]], [6, 1, 7], 4, answer(12, 1, 0)),
+    ("line, subject of dom", &[[40000, 3, 6]], [6, 1, 7], 4, answer(12, 1, 0)),
+    ("line, object of dom", &[[6, 3, 40000]], [6, 1, 7], 4, answer(12, 1, 0)),
+    ("line, subject of range", &[[59999, 4, 6]], [6, 1, 7], 4, answer(12, 1, 0)),
+    ("line, object of range", &[[6, 4, 59999]], [6, 1, 7], 4, answer(12, 1, 0)),
+    ("line, both ends of range", &[[40000, 4, 40000]], [6, 1, 7], 4, answer(12, 1, 0)),
+    ("line, object of type", &[[6, 5, 40000]], [6, 5, 60000], 4, answer(12, 1, 0)),
+    ("line, both ends of type", &[[40000, 5, 40001]], [6, 1, 7], 4, answer(12, 1, 0)),
+    ("line, subject of type", &[[40000, 5, 6]], [40000, 5, 6], 4, answer(YES, 0, 1)),
+    ("line, both ends of a name", &[[40000, 6, 59999]], [40000, 6, 59999], 4, answer(YES, 0, 1)),
+    ("line, the last name", &[[39999, 1, 39999]], [39999, 1, 39999], 4, answer(YES, 0, 1)),
+    ("line, 3 first", &[[40000, 1, 0]], [6, 1, 7], 4, answer(3, 1, 0)),
+    ("line, 4 first", &[[40000, 1, 60000]], [6, 1, 7], 4, answer(4, 1, 0)),
+    ("line, 5 first, of the object", &[[40000, 1, 5]], [6, 1, 7], 4, answer(5, 1, 0)),
+    ("line, 5 first, of the subject", &[[1, 5, 40000]], [6, 1, 7], 4, answer(5, 1, 0)),
+    ("line, 5 alone, a literal predicate", &[[40000, 40000, 40000]], [6, 1, 7], 4, answer(5, 1, 0)),
+    ("line, behind a 6 on an earlier line", &[[6, 1, 8], [6, 1, 7], [40000, 1, 6]], [6, 1, 7], 4, answer(6, 2, 0)),
+    ("line, before 6 on the same", &[[7, 1, 8], [6, 1, 40000]], [6, 1, 7], 4, answer(12, 2, 0)),
+    ("line, before 6 on the same, subjects equal", &[[40000, 7, 6], [40000, 1, 6]], [6, 1, 7], 4, answer(12, 2, 0)),
+    ("line, of two equal ones the first", &[[40000, 1, 6], [40000, 1, 6]], [6, 1, 7], 4, answer(12, 1, 0)),
+    ("line, before a 5 on a later line", &[[6, 1, 40000], [7, 1, 5]], [6, 1, 7], 4, answer(12, 1, 0)),
+    ("line, before a 3 on a later line", &[[6, 1, 40000], [7, 1, 0]], [6, 1, 7], 4, answer(12, 1, 0)),
+    ("line, behind a 5 on an earlier line", &[[6, 1, 5], [6, 1, 40000]], [6, 1, 7], 4, answer(5, 1, 0)),
+    ("line, before the question's 3", &[[6, 1, 40000]], [0, 1, 7], 4, answer(12, 1, 0)),
+    ("question, subject of sc", &T, [40000, 1, 12], 4, answer(12, 0, 0)),
+    ("question, object of sc", &T, [11, 1, 40000], 4, answer(12, 0, 0)),
+    ("question, subject of sp", &T, [59999, 2, 14], 4, answer(12, 0, 0)),
+    ("question, object of sp", &T, [13, 2, 59999], 4, answer(12, 0, 0)),
+    ("question, subject of dom", &T, [40000, 3, 11], 4, answer(12, 0, 0)),
+    ("question, object of dom", &T, [14, 3, 40000], 4, answer(12, 0, 0)),
+    ("question, subject of range", &T, [40000, 4, 11], 4, answer(12, 0, 0)),
+    ("question, object of range", &T, [14, 4, 40000], 4, answer(12, 0, 0)),
+    ("question, object of type", &T, [10, 5, 40000], 4, answer(12, 0, 0)),
+    ("question, subject of type", &T, [40000, 5, 12], 4, answer(NO, 0, 0)),
+    ("question, both ends of a name", &T, [40000, 13, 59999], 4, answer(NO, 0, 0)),
+    ("question, 3 first", &T, [40000, 1, 65536], 4, answer(3, 0, 0)),
+    ("question, 4 first", &T, [60000, 60000, 40000], 4, answer(4, 0, 0)),
+    ("question, 5 first", &T, [40000, 1, 5], 4, answer(5, 0, 0)),
+    ("question, before 7", &T, [40000, 1, 12], 1025, answer(12, 0, 0)),
+    ("question, a gap is no literal", &T, [60000, 1, 12], 4, yes(1, 11)),
+    ("question, literal object of sc and a gap", &T, [60000, 1, 40000], 4, answer(12, 0, 0)),
+    ("question, literal subject of sc and a gap", &T, [40000, 1, 60000], 4, answer(12, 0, 0)),
+    ("question, literal object of sp and a gap", &T, [65535, 2, 59999], 4, answer(12, 0, 0)),
+    ("question, literal subject of dom and a gap", &T, [40000, 3, 65535], 4, answer(12, 0, 0)),
+    ("question, literal object of range and a gap", &T, [60000, 4, 40000], 4, answer(12, 0, 0)),
+    ("question, literal object of type and a gap", &T, [60000, 5, 40000], 4, answer(12, 0, 0)),
+    ("question, literal subject of type and a gap", &T, [40000, 5, 60000], 4, no()),
+    ("question, literal object of a name and a gap", &T, [60000, 13, 40000], 4, no()),
+    ("question, with a gap before 7", &T, [60000, 5, 40000], 1025, answer(12, 0, 0)),
+    ("question, 5 alone, with a gap", &T, [60000, 40000, 40000], 1025, answer(5, 0, 0)),
+];
+
+/// The cases with a gap and with literals as questions to compare by, with more paper than they need and with less.
+pub fn questions() -> impl Iterator<Item = Input> {
     let question = |&(_, facts, triple, allowance, _): &Case| {
-        let paper = Faithful.paper(allowance.min(1025)) + 9;
-        Input::Question { table: table_bytes(facts), triple, allowance, paper }
+        let need = Faithful.paper(allowance.min(1025));
+        let table = table_bytes(facts);
+        [need + 9, need.saturating_sub(1)].map(|paper| Input::Question { table: table.clone(), triple, allowance, paper })
     };
-    TIES.iter().chain(GAPS).map(question)
+    TIES.iter().chain(GAPS).chain(CLASSES).flat_map(question)
 }
 
 /// Every case must have its answer, from the call and from the program, and the example its output, byte for byte. Of several
 /// least fillings one that makes no choice may name any.
 pub fn run(calls: &dyn Calls) {
-    for case in CASES.iter().chain(GAPS) {
+    for case in CASES.iter().chain(GAPS).chain(CLASSES) {
         run_case(calls, case, true);
     }
     for case in TIES {

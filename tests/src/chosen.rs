@@ -71,8 +71,7 @@ fn comes_after(way: u32, [s, p, _]: Fact) -> Option<End> {
     match p {
         SP => Some(End::Property(s)),
         SC => Some(End::Class(s)),
-        // a literal is no predicate: its dom or range fact never fires
-        _ => (p == way && is_name(s)).then_some(End::Property(s)),
+        _ => (p == way).then_some(End::Property(s)),
     }
 }
 

@@ -1,4 +1,5 @@
-//! Terms, facts and answers (document 01, "Terms and facts" and the table of numbers; document 02, Point 1, for gaps).
+//! Terms, facts and answers (document 01, "Terms and facts" and the table of numbers; document 02, Point 1 for gaps and Point 2 for
+//! where a literal may stand).
 
 /// Subject, predicate, object. 32 bits wide, so that a number that is no term can be put, and refused.
 pub type Fact = [u32; 3];
@@ -25,9 +26,20 @@ pub fn is_blank(term: u32) -> bool {
     (60000..=65535).contains(&term)
 }
 
-/// Subject and object are each a name or a literal, the predicate is a name or one of 1 to 5.
+/// Subject and object of sc, sp, dom and range are names; the subject of type is a name or a literal, its object a name; with a
+/// name as predicate both are names or literals.
 pub fn well_formed([s, p, o]: Fact) -> bool {
-    (is_name(s) || is_literal(s)) && (is_name(p) || is_vocabulary(p)) && (is_name(o) || is_literal(o))
+    let node = |term| is_name(term) || is_literal(term);
+    match p {
+        SC | SP | DOM | RANGE => is_name(s) && is_name(o),
+        TYPE => node(s) && is_name(o),
+        _ => node(s) && is_name(p) && node(o),
+    }
+}
+
+/// A literal stands as subject or object of sc, sp, dom or range, or as object of type, whatever else is wrong with the fact.
+pub fn text_as_class([s, p, o]: Fact) -> bool {
+    is_vocabulary(p) && (is_literal(o) || is_literal(s) && p != TYPE)
 }
 
 /// Where a question's triple has its gap: the place of its only blank, 0 for the subject and 2 for the object. A blank

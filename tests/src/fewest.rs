@@ -135,12 +135,10 @@ pub fn ways(facts: &[Fact], triple: Fact) -> Vec<Vec<Fact>> {
             let typed = cheapest(with(TYPE).filter(|f| f[0] == x), |f| classes.of(f[2]));
             let plain = typed.map(|f| [vec![f], classes.chain(f[2]).0].concat());
             let by = |predicate: u32, own: usize| {
-                // a literal is no predicate: its dom or range fact never fires
-                let fires = || with(predicate).filter(|f| is_name(f[0]));
-                let properties = Costs::new(facts, SP, fires().map(|f| (f[0], 1 + classes.of(f[2]))));
+                let properties = Costs::new(facts, SP, with(predicate).map(|f| (f[0], 1 + classes.of(f[2]))));
                 let first = cheapest(data().filter(|f| f[own] == x), |f| properties.of(f[1]))?;
                 let (chain, last) = properties.chain(first[1]);
-                let fired = cheapest(fires().filter(|f| f[0] == last), |f| classes.of(f[2]))?;
+                let fired = cheapest(with(predicate).filter(|f| f[0] == last), |f| classes.of(f[2]))?;
                 Some([chain, vec![first, fired], classes.chain(fired[2]).0].concat())
             };
             [by(DOM, 0), by(RANGE, 2), plain].into_iter().flatten().collect()

@@ -1,8 +1,9 @@
-//! Questions with a gap, and checks of what fills it: every one over small tables, ties of every kind, cycles, every size.
+//! Questions with a gap, and checks of what fills it: every one over small tables, ties of every kind, cycles, every size; and
+//! derivations with a blank or a literal where it may not stand.
 use crate::compare::Input;
 use crate::facts::*;
-use crate::generate::{BLANKS, BYTES};
-use crate::lines::{derivation_bytes, line, table_bytes};
+use crate::generate::{BLANKS, BYTES, LITERALS};
+use crate::lines::{derivation_bytes, line, table_bytes, Line};
 use crate::parts::{Faithful, Parts};
 use crate::systematic::{asked, chain, choices, example, kinds, lattice, replaced};
 
@@ -28,14 +29,15 @@ fn small_facts() -> Vec<Fact> {
     TERMS.into_iter().flat_map(|s| PREDICATES.into_iter().flat_map(move |p| TERMS.map(|o| [s, p, o]))).collect()
 }
 
-/// Every table of at most two of these facts, and some of three.
+/// Every table of at most two of these facts, and some of three, that are well-formed; and some of two that need not be.
 fn tables() -> impl Iterator<Item = Vec<Fact>> {
-    let facts = small_facts();
+    let (all, facts) = (small_facts(), small_facts().into_iter().filter(|&fact| well_formed(fact)).collect::<Vec<Fact>>());
+    let pairs = |n: usize| (0..n).flat_map(move |i| (i + 1..n).map(move |j| vec![i, j]));
     let n = facts.len();
-    let pairs = (0..n).flat_map(move |i| (i + 1..n).map(move |j| vec![i, j]));
-    let three = (0..n).flat_map(move |i| (i + 1..n).flat_map(move |j| (j + 1..n).map(move |k| vec![i, j, k])));
-    let places = [vec![]].into_iter().chain((0..n).map(|i| vec![i])).chain(pairs).chain(three.step_by(29));
-    places.map(move |places| places.into_iter().map(|i| facts[i]).collect())
+    let three = pairs(n).flat_map(move |pair| (pair[1] + 1..n).map(move |k| [&pair[..], &[k]].concat()));
+    let places = [vec![]].into_iter().chain((0..n).map(|i| vec![i])).chain(pairs(n)).chain(three.step_by(5));
+    let pairs_of_all = pairs(all.len()).step_by(17).map(move |pair| pair.into_iter().map(|i| all[i]).collect());
+    places.map(move |places| places.into_iter().map(|i| facts[i]).collect()).chain(pairs_of_all)
 }
 
 /// Every question with a gap over the same terms and predicates, under an allowance of 2 or another that goes round.
@@ -50,7 +52,9 @@ fn small_tables() -> impl Iterator<Item = Input> {
         let table = table_bytes(&facts);
         let lines: Vec<u8> = small_questions(round).flat_map(|([s, p, o], allowance)| line(&[s, p, o, allowance])).collect();
         let program = Input::Program { input: [&table[..], &line(&[0; 3]), &lines].concat() };
-        let question = move |(triple, allowance)| Input::Question { table: table.clone(), triple, allowance, paper: 31 * 5 + 7 };
+        // one table in five with paper for an allowance of 1
+        let paper = if round % 5 == 0 { 31 } else { 31 * 5 + 7 };
+        let question = move |(triple, allowance)| Input::Question { table: table.clone(), triple, allowance, paper };
         small_questions(round).map(question).chain((round % 11 == 0).then_some(program))
     })
 }
@@ -103,25 +107,46 @@ fn damaged() -> impl Iterator<Item = Input> {
     })
 }
 
-/// The example's derivation put to the check for its triple with every blank in every place, or in two; and with a blank in
-/// each place of each of its lines.
+/// The example's derivation put to the check for its triple with every blank and some literals in every place, or in two; and
+/// with one in each place of each of its lines.
 fn checks() -> impl Iterator<Item = Input> {
     let (table, triple, derivation) = example();
     let put = move |triple: Fact, derivation: Vec<u8>| Input::Check { table: table.clone(), triple, derivation };
     let mut inputs = Vec::new();
-    for &blank in BLANKS {
+    for &term in BLANKS.iter().chain(LITERALS) {
         for places in 1..8 {
-            let blanks = [0, 1, 2].map(|i| if places >> i & 1 == 1 { blank } else { triple[i] });
-            inputs.extend([put(blanks, derivation.clone()), put(blanks, vec![]), put(blanks, derivation[1..].to_vec())]);
+            let triple = [0, 1, 2].map(|i| if places >> i & 1 == 1 { term } else { triple[i] });
+            inputs.extend([put(triple, derivation.clone()), put(triple, vec![]), put(triple, derivation[1..].to_vec())]);
         }
         for place in 0..7 * 3 {
             let mut lines = Faithful.lines(&derivation).expect("the example");
-            lines[place / 3].fact[place % 3] = blank;
+            lines[place / 3].fact[place % 3] = term;
             let last = lines[6].fact;
             inputs.extend([triple, last].map(|triple| put(triple, derivation_bytes(&lines))));
         }
     }
-    inputs.into_iter()
+    inputs.into_iter().chain(text_lines())
+}
+
+/// The example's derivation with a line more in front of it, behind it, or in its midst, where a literal stands as subject or
+/// object of each predicate: marked as a table line, or as given by each rule from two lines before it. The triple put is the
+/// example's, or that line's.
+fn text_lines() -> impl Iterator<Item = Input> {
+    let (table, triple, derivation) = example();
+    let lines = Faithful.lines(&derivation).expect("the example");
+    let facts = [SC, SP, DOM, RANGE, TYPE, 13].into_iter().flat_map(|p| [[40000, p, 12], [10, p, 59999], [40000, p, 40001]]);
+    let places = facts.flat_map(|fact| [0, 4, 7].map(|place| (fact, place)));
+    let checks = places.flat_map(move |(fact, place)| {
+        let (table, lines) = (table.clone(), lines.clone());
+        (0..=6).map(move |rule| {
+            let mut lines = lines.clone();
+            let (first, second) = if rule == 0 { (0, 0) } else { (1, 2) };
+            lines.insert(place, Line { rule, first, second, fact });
+            let derivation = derivation_bytes(&lines);
+            [triple, fact].map(|triple| Input::Check { table: table.clone(), triple, derivation: derivation.clone() })
+        })
+    });
+    checks.flatten()
 }
 
 /// A question with allowances about its count.
@@ -146,24 +171,28 @@ fn every_size() -> impl Iterator<Item = Input> {
     all.flat_map(|(i, (facts, triple))| gapped(triple, i).into_iter().flat_map(move |gap| about_count(&facts, gap)))
 }
 
-/// Full tables in which a thousand terms fill the gap: all alike, or one of them, in any place, by a fact fewer than the rest.
+/// Full tables in which a thousand terms fill the gap, names or literals: all alike, or one of them, in any place, by a fact fewer
+/// than the rest.
 fn many_fillings() -> impl Iterator<Item = Input> {
     let near = [None, Some(0), Some(500), Some(1010)].into_iter();
     near.flat_map(|near| [TYPE, DOM, RANGE, SP].map(|way| (near, way))).enumerate().flat_map(|(round, (near, way))| {
         let ahead = |i: u32| u32::from(near == Some(i));
+        // names in one half of the tables, literals in the other
+        let base = if (round / 4 + round) % 2 == 0 { 0 } else { 40_000 };
+        let (subject, object) = (base + 100, base + 19_000);
         let links = [[7, SP, 8], [8, way, 20_000], [20_000, SC, 20_001], [20_001, SC, 20_002]];
         let many = (0..1011).map(|i| match way {
-            TYPE => [100 + i, TYPE, 20_000 + ahead(i)],
-            SP => [100, 7 + ahead(i), 101 + i],
+            TYPE => [subject + i, TYPE, 20_000 + ahead(i)],
+            SP => [subject, 7 + ahead(i), subject + 1 + i],
             // the first facts have the largest objects
-            _ => [100 + i, 7 + ahead(i), 19_000 - i],
+            _ => [subject + i, 7 + ahead(i), object - i],
         });
         let mut facts: Vec<Fact> = many.chain(links).collect();
         facts.sort();
         let triple = match way {
-            SP => [100, 8, 101],
-            RANGE => [19_000, TYPE, 20_002],
-            _ => [100, TYPE, 20_002],
+            SP => [subject, 8, subject + 1],
+            RANGE => [object, TYPE, 20_002],
+            _ => [subject, TYPE, 20_002],
         };
         gapped(triple, round).into_iter().flat_map(move |gap| about_count(&facts, gap))
     })

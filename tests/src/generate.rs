@@ -43,7 +43,7 @@ pub fn test_inputs() -> impl Iterator<Item = Input> {
 pub fn inputs(seed: u64, random: usize) -> impl Iterator<Item = Input> {
     let first = random_inputs(seed, random / 20);
     let rest = random_inputs(seed + 1, random - random / 20);
-    let early = cases::gaps().chain(first).chain(systematic::short());
+    let early = cases::questions().chain(first).chain(systematic::short());
     early.chain(rest).chain(systematic::long()).chain(gaps::long()).chain(gaps::short())
 }
 
@@ -61,19 +61,19 @@ pub fn random_inputs(seed: u64, count: usize) -> impl Iterator<Item = Input> {
 
 // Numbers and bytes at which something changes.
 pub const NUMBERS: &[u32] = &[0, 1, 2, 3, 4, 5, 6, 7, 10, 39999, 40000, 40001, 59999, 60000, 65535, 65536, 65546, 99999];
+pub const LITERALS: &[u32] = &[40000, 40001, 59999];
 pub const BLANKS: &[u32] = &[60000, 60001, 65535];
 pub const WIDE_NUMBERS: &[u32] = &[100_000, 65_536 + 10, 131_072 + 13, 1 << 24 | 10, u32::MAX - 1, u32::MAX];
 pub const BYTES: &[u8] = b" 0123456789\n\t\r+-.ax/:\0\x80\xff";
 
 // Random tables and triples
 
-/// The table's facts, about `most` at most, and a triple that often follows from them.
+/// The table's facts, about `most` at most, all well-formed, and a triple that often follows from them.
 pub fn table(r: &mut Random, most: usize) -> (Vec<Fact>, Fact) {
     let size = r.below(most + 1);
-    let mut names: Vec<u32> = (6..8 + r.below(2 + size / 2) as u32).chain([39999]).collect();
+    let mut names: Vec<u32> = (6..9 + r.below(2 + size / 2) as u32).chain([39999]).collect();
     r.shuffle(&mut names);
-    let literals = &[40000, 40001, 59999][..r.below(4)];
-    let mut terms = [&names, literals].concat();
+    let mut terms = [&names, &LITERALS[..r.below(4)]].concat();
     r.shuffle(&mut terms);
     let mut facts = BTreeSet::new();
     let longest = if r.one_in(2) { size / 2 } else { size.min(4) };
@@ -88,7 +88,11 @@ pub fn table(r: &mut Random, most: usize) -> (Vec<Fact>, Fact) {
 
 fn random_fact(r: &mut Random, terms: &[u32], names: &[u32]) -> Fact {
     let name = r.pick(names);
-    [r.pick(terms), r.pick(&[SC, SC, SC, SP, SP, SP, DOM, RANGE, TYPE, TYPE, name, name, name]), r.pick(terms)]
+    match r.pick(&[SC, SC, SC, SP, SP, SP, DOM, RANGE, TYPE, TYPE, name, name, name]) {
+        TYPE => [r.pick(terms), TYPE, r.pick(names)],
+        p if is_name(p) => [r.pick(terms), p, r.pick(terms)],
+        p => [r.pick(names), p, r.pick(names)],
+    }
 }
 
 /// Puts most facts of a net into the table; gives its triple.
@@ -102,11 +106,11 @@ fn plant_net(r: &mut Random, facts: &mut BTreeSet<Fact>) -> Fact {
 
 /// Puts the facts of one kind of derivation into the table, with chains that have side ways; gives the triple derived.
 fn plant(r: &mut Random, terms: &[u32], names: &[u32], longest: usize, facts: &mut BTreeSet<Fact>) -> Fact {
-    let (x, y, class, q) = (r.pick(terms), r.pick(terms), r.pick(terms), r.pick(names));
+    let (x, y, class, q) = (r.pick(terms), r.pick(terms), r.pick(names), r.pick(names));
     let (kind, width) = (r.below(6), r.pick(&[1, 1, 2, 3, 4]));
     let longest = longest.min(1000 / (width * width));
     let (n, m) = (r.below(longest + 1), r.below(longest + 1));
-    let mut round = terms.iter().copied().cycle().skip(r.below(terms.len()));
+    let mut round = names.iter().copied().cycle().skip(r.below(names.len()));
     let mut chain = |predicate: u32, from: u32, n: usize, facts: &mut BTreeSet<Fact>| {
         let mut layer = vec![from];
         for _ in 0..n {
@@ -118,11 +122,11 @@ fn plant(r: &mut Random, terms: &[u32], names: &[u32], longest: usize, facts: &m
         layer[0]
     };
     match kind {
-        0 => [x, SP, chain(SP, x, n + 1, facts)],
-        1 => [x, SC, chain(SC, x, n + 1, facts)],
+        0 => [q, SP, chain(SP, q, n + 1, facts)],
+        1 => [q, SC, chain(SC, q, n + 1, facts)],
         2 => {
-            facts.insert([x, TYPE, y]);
-            [x, TYPE, chain(SC, y, n, facts)]
+            facts.insert([x, TYPE, class]);
+            [x, TYPE, chain(SC, class, n, facts)]
         }
         kind => {
             facts.insert([x, q, y]);
@@ -142,9 +146,10 @@ fn any_table(r: &mut Random) -> (Vec<Fact>, Fact) {
     table(r, most)
 }
 
-/// The triple, or one with a blank or two, or another of the table's terms, or one with numbers that may be refused.
+/// The triple, or one with a blank or two, or another of the table's terms, or one with numbers that may be refused, or with a
+/// literal where a class or a property belongs, with a gap or without.
 fn any_triple(r: &mut Random, facts: &[Fact], mut triple: Fact) -> Fact {
-    match r.below(12) {
+    match r.below(13) {
         0..=4 => {}
         7..=9 => {
             triple[r.pick(&[0, 0, 2, 2])] = r.pick(BLANKS);
@@ -156,6 +161,12 @@ fn any_triple(r: &mut Random, facts: &[Fact], mut triple: Fact) -> Fact {
             let fact = r.pick(facts);
             triple[r.below(3)] = r.pick(&fact);
         }
+        10 => {
+            let place = put_text(r, &mut triple);
+            if r.one_in(2) {
+                triple[2 - place] = r.pick(BLANKS);
+            }
+        }
         _ => {
             for _ in 0..1 + r.below(2) {
                 triple[r.below(3)] = if r.one_in(3) { r.pick(WIDE_NUMBERS) } else { r.pick(NUMBERS) };
@@ -166,6 +177,33 @@ fn any_triple(r: &mut Random, facts: &[Fact], mut triple: Fact) -> Fact {
 }
 
 // Damage
+
+/// Puts a literal where a class or a property belongs, at times with vocabulary at the other end; gives the literal's place.
+fn put_text(r: &mut Random, fact: &mut Fact) -> usize {
+    if !is_vocabulary(fact[1]) {
+        fact[1] = 1 + r.below(5) as u32;
+    }
+    let place = if fact[1] == TYPE { 2 } else { r.pick(&[0, 2]) };
+    fact[place] = r.pick(LITERALS);
+    if r.one_in(5) {
+        fact[2 - place] = 1 + r.below(5) as u32;
+    }
+    place
+}
+
+/// Does so to a fact or two. One half of the tables is then put in order again; in the other such a fact often falls below the
+/// one before it.
+fn put_text_into(r: &mut Random, facts: &mut [Fact]) {
+    let in_order = r.one_in(2);
+    for _ in 0..if facts.is_empty() { 0 } else { 1 + r.below(2) } {
+        let i = r.below(facts.len());
+        facts[i] = facts[if in_order { i } else { r.below(i + 1) }];
+        put_text(r, &mut facts[i]);
+    }
+    if in_order {
+        facts.sort();
+    }
+}
 
 /// Damages bytes laid out in lines of a width.
 fn damage(r: &mut Random, bytes: &mut Vec<u8>, width: usize) {
@@ -192,9 +230,13 @@ fn damage(r: &mut Random, bytes: &mut Vec<u8>, width: usize) {
     }
 }
 
-/// The table's bytes, damaged in one of eight.
+/// The table's bytes, damaged in one of eight; one in ten has a literal where a class or a property belongs.
 fn any_table_bytes(r: &mut Random, facts: &[Fact]) -> Vec<u8> {
-    let mut bytes = table_bytes(facts);
+    let mut facts = facts.to_vec();
+    if r.one_in(10) {
+        put_text_into(r, &mut facts);
+    }
+    let mut bytes = table_bytes(&facts);
     if r.one_in(8) {
         (0..1 + r.below(2)).for_each(|_| damage(r, &mut bytes, TABLE_LINE));
     }
@@ -215,8 +257,11 @@ fn any_room(r: &mut Random, need: usize) -> usize {
 // Random inputs, one function a call
 
 fn any_allowance(r: &mut Random, facts: &[Fact], triple: Fact) -> u32 {
-    let found = if Faithful.question_fault(triple).is_none() { Faithful.found(facts, triple) } else { None };
-    let f = found.map_or(1, |(_, used)| used.len()) as u32;
+    // of a triple that is refused no count is known: the allowance may be refused too
+    if Faithful.question_fault(triple).is_some() {
+        return r.pick(&[0, 1, 4, 4, 1024, 1025, 1 << 16, u32::MAX]);
+    }
+    let f = Faithful.found(facts, triple).map_or(1, |(_, used)| used.len()) as u32;
     match r.below(10) {
         0 | 1 => f - 1,
         2 => f + 1,
@@ -257,7 +302,7 @@ fn damage_lines(r: &mut Random, lines: &mut Vec<Line>, facts: &[Fact]) {
     let number = r.pick(NUMBERS);
     let term = facts.get(r.below(facts.len() + 1)).map_or(number, |&f| r.pick(&f));
     let l = &mut lines[i];
-    match r.below(12) {
+    match r.below(13) {
         0 => l.rule = r.below(8) as u32,
         1 => l.rule = number,
         2 => (l.first, l.second) = (l.second, l.first),
@@ -269,14 +314,16 @@ fn damage_lines(r: &mut Random, lines: &mut Vec<Line>, facts: &[Fact]) {
         8 => lines.swap(i, j),
         9 => lines.insert(i, lines[j]),
         10 if count > 1 => drop(lines.remove(i)),
+        11 => {
+            put_text(r, &mut l.fact);
+        }
         _ => l.rule = 0,
     }
 }
 
 fn check(r: &mut Random) -> Input {
     let (facts, target) = any_table(r);
-    let shortest = Faithful.fault(target).map_or_else(|| Faithful.chosen(&facts, target), |_| None);
-    let mut lines = match shortest {
+    let mut lines = match Faithful.chosen(&facts, target) {
         Some(used) if r.one_in(2) => Faithful.derivation(&used),
         _ if facts.is_empty() => vec![Line::of_table(target)],
         _ => {
@@ -284,27 +331,40 @@ fn check(r: &mut Random) -> Input {
             forward(r, &facts, count)
         }
     };
-    let triple = lines[lines.len() - 1].fact;
+    let end = lines[lines.len() - 1].fact;
     if r.one_in(2) {
         (0..1 + r.below(2)).for_each(|_| damage_lines(r, &mut lines, &facts));
     }
+    let triple = match r.below(8) {
+        0 | 1 => any_triple(r, &facts, target),
+        2 | 3 => lines[lines.len() - 1].fact,
+        _ => end,
+    };
     let mut derivation = derivation_bytes(&lines);
     if r.one_in(6) {
         (0..1 + r.below(2)).for_each(|_| damage(r, &mut derivation, DERIVATION_LINE));
     }
-    let triple = if r.one_in(4) { any_triple(r, &facts, target) } else { triple };
     Input::Check { table: any_table_bytes(r, &facts), triple, derivation }
 }
 
+/// A table's facts, one in four with a literal where a class or a property belongs.
+fn any_facts(r: &mut Random) -> Vec<Fact> {
+    let (mut facts, _) = any_table(r);
+    if r.one_in(4) {
+        put_text_into(r, &mut facts);
+    }
+    facts
+}
+
 fn read(r: &mut Random) -> Input {
-    let (facts, _) = any_table(r);
+    let facts = any_facts(r);
     let mut table = table_bytes(&facts);
     (0..r.below(3)).for_each(|_| damage(r, &mut table, TABLE_LINE));
     Input::Read { table, room: any_room(r, 3 * facts.len()) }
 }
 
 fn write(r: &mut Random) -> Input {
-    let (facts, _) = any_table(r);
+    let facts = any_facts(r);
     let mut row = facts.concat();
     for _ in 0..r.below(3) {
         let at = r.below(row.len() + 1);

@@ -1,5 +1,5 @@
-//! Document 01 with document 02's gaps, part by part, from their own words. Each part is a method of its own, so that a broken variant
-//! (`variants`) replaces one of them and shares the rest.
+//! Document 01 with Points 1 and 2 of document 02, part by part, from their own words. Each part is a method of its own, so that a
+//! broken variant (`variants`) replaces one of them and shares the rest.
 use crate::chosen;
 use crate::facts::*;
 use crate::lines::{self, derivation_bytes, line, table_bytes, Line, DERIVATION_LINE, QUESTION_LINE, TABLE_LINE};
@@ -15,7 +15,7 @@ impl Parts for Faithful {}
 pub trait Parts {
     // Terms and facts
 
-    /// The first of refusals 3, 4, 5, each over the whole width.
+    /// The first of refusals 3, 4, 5, 12, each over the whole width.
     fn fault(&self, fact: Fact) -> Option<u32> {
         let [s, p, o] = fact;
         if fact.iter().any(|&t| t == 0 || t > 65535) {
@@ -25,16 +25,16 @@ pub trait Parts {
         } else if is_vocabulary(s) || is_vocabulary(o) || is_literal(p) {
             Some(5)
         } else {
-            None
+            text_as_class(fact).then_some(12)
         }
     }
 
-    /// The same of a question's triple. One with a gap is refused when it is so with a vocabulary term, with a name and with a
-    /// literal there: a fault that a term of each kind leaves is one of the other terms.
+    /// The same of a question's triple. One with a gap is refused when it is so with a name and with a literal there: a fault
+    /// that both leave is one of the other terms.
     fn question_fault(&self, triple: Fact) -> Option<u32> {
         match gap(triple) {
             None => self.fault(triple),
-            Some(_) => [SC, 6, 40000].into_iter().map(|term| self.fault(filled(triple, term))).min().flatten(),
+            Some(_) => [6, 40000].into_iter().map(|term| self.fault(filled(triple, term))).min().flatten(),
         }
     }
 
@@ -63,7 +63,7 @@ pub trait Parts {
         index as u32 + 1
     }
 
-    /// Lines downward, each tried for 2, 3, 4, 5, 6. A row's facts come as they are, with no 2.
+    /// Lines downward, each tried for 2, 3, 4, 5, 12, 6. A row's facts come as they are, with no 2.
     fn facts(&self, lines: impl Iterator<Item = Option<Fact>>) -> Result<Vec<Fact>, Answer> {
         let mut facts: Vec<Fact> = Vec::new();
         for (i, fact) in lines.enumerate() {
@@ -115,8 +115,8 @@ pub trait Parts {
 
     // Rules
 
-    /// What a rule gives from two facts in the order in which it writes them.
-    fn gives(&self, rule: u32, first: Fact, second: Fact) -> Option<Fact> {
+    /// What a rule writes for two facts in the order in which it has them, well-formed or not.
+    fn concludes(&self, rule: u32, first: Fact, second: Fact) -> Option<Fact> {
         let given = match (rule, first, second) {
             (1, [a, SP, b], [b2, SP, c]) if b == b2 => [a, SP, c],
             (2, [a, SP, b], [x, a2, y]) if a == a2 => [x, b, y],
@@ -126,7 +126,13 @@ pub trait Parts {
             (6, [a, RANGE, b], [_, a2, y]) if a == a2 => [y, TYPE, b],
             _ => return None,
         };
-        well_formed(given).then_some(given)
+        Some(given)
+    }
+
+    /// What a rule gives from two facts: all triples of a step are well-formed.
+    fn gives(&self, rule: u32, first: Fact, second: Fact) -> Option<Fact> {
+        let given = self.concludes(rule, first, second)?;
+        [first, second, given].into_iter().all(well_formed).then_some(given)
     }
 
     // Derivation lines and their check

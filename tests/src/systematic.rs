@@ -8,7 +8,7 @@ use crate::lines::{derivation_bytes, line, table_bytes, Line};
 use crate::parts::{Faithful, Parts};
 
 pub fn short() -> impl Iterator<Item = Input> {
-    let tables = every_byte().chain(every_length()).chain(every_line()).chain(every_row());
+    let tables = every_byte().chain(every_length()).chain(every_line()).chain(every_row()).chain(every_literal());
     programs().chain(tables).chain(every_precedence()).chain(every_step()).chain(every_choice())
 }
 
@@ -76,11 +76,14 @@ fn every_length() -> impl Iterator<Item = Input> {
 /// Terms for each kind of fault and for none.
 const TERMS: [u32; 12] = [0, 1, 5, 6, 11, 12, 39999, 40000, 59999, 60000, 65535, 65536];
 
+/// Every triple of these terms, and the same with the rest of the vocabulary as predicate.
 fn triples() -> impl Iterator<Item = Fact> + Clone {
-    TERMS.into_iter().flat_map(|s| TERMS.into_iter().flat_map(move |p| TERMS.into_iter().map(move |o| [s, p, o])))
+    let predicates = TERMS.into_iter().chain([SP, DOM, RANGE]);
+    predicates.flat_map(|p| TERMS.into_iter().flat_map(move |s| TERMS.into_iter().map(move |o| [s, p, o])))
 }
 
-/// Every such fact behind another one: as it is, before a further bad line, with a bad line end, and with too little room.
+/// Every such fact behind another one: as it is, before a further bad line, with a bad line end, and with too little room. Many
+/// stand in order, and many do not.
 fn every_line() -> impl Iterator<Item = Input> {
     triples().flat_map(|fact| {
         let facts = [[11, 1, 12], fact, [12, 1, 1]];
@@ -96,7 +99,8 @@ fn every_line() -> impl Iterator<Item = Input> {
 fn put() -> impl Iterator<Item = Fact> {
     let whole = [[10, 5, 12], [10, 5, 11], [0, 40000, 60000], [10, 60000, 1], [10, 40000, 6], [1, 60000, 65536], [65546, 5, 12]];
     let gaps = [[60000, 5, 12], [10, 5, 65535], [60000, 5, 60000], [60000, 40000, 6], [3, 7, 60000]];
-    whole.into_iter().chain(gaps)
+    let literals = [[40000, 5, 12], [10, 5, 40000], [40000, 4, 11], [40000, 1, 5], [60000, 1, 40000], [59999, 3, 65535], [40000, 2, 65536]];
+    whole.into_iter().chain(gaps).chain(literals)
 }
 
 /// Every refusal of the table with every fault of the triple, of the allowance and the paper, or of the derivation.
@@ -106,7 +110,8 @@ fn every_precedence() -> impl Iterator<Item = Input> {
     torn.pop();
     let mut column = good.clone();
     column[20] = b'x';
-    let faults = [[0, 1, 6], [60000, 1, 6], [40000, 40000, 6], [10, 13, 20]].map(|f| table_bytes(&[T[0], f]));
+    let faults = [[0, 1, 6], [60000, 1, 6], [40000, 40000, 6], [10, 13, 20], [40000, 1, 6], [6, 5, 40000], [40000, 1, 5]];
+    let faults = faults.map(|f| table_bytes(&[T[0], f]));
     let tables: Vec<Vec<u8>> = [good, torn, column].into_iter().chain(faults).collect();
     let mut bad_form = derivation.clone();
     bad_form[31 * 6 + 30] = b' ';
@@ -260,14 +265,57 @@ fn lattices() -> impl Iterator<Item = Input> {
     all.flat_map(|(facts, triple)| asked(&facts, triple, 1024, true))
 }
 
-/// Every number of the example's row replaced by each of some.
-fn every_row() -> impl Iterator<Item = Input> {
-    (0..12).flat_map(|i| {
-        NUMBERS.iter().chain(WIDE_NUMBERS).flat_map(move |&number| {
-            let mut row = T.concat();
+/// Facts of every kind, in order.
+const EVERY_KIND: [Fact; 8] = [[6, 1, 7], [7, 2, 8], [8, 3, 9], [9, 4, 10], [10, 5, 11], [11, 12, 13], [40000, 5, 12], [40001, 13, 59999]];
+
+/// The row with each number in turn replaced by each of some.
+fn replaced_in(row: Vec<u32>) -> impl Iterator<Item = Vec<u32>> {
+    (0..row.len()).flat_map(move |i| {
+        let row = row.clone();
+        NUMBERS.iter().chain(WIDE_NUMBERS).map(move |&number| {
+            let mut row = row.clone();
             row[i] = number;
-            [64, 63, 80].map(|room| Input::Write { row: row.clone(), room })
+            row
         })
+    })
+}
+
+/// Every number of the example's row, and of one with facts of every kind, replaced by each of some: written, read, and asked of.
+fn every_row() -> impl Iterator<Item = Input> {
+    let example = replaced_in(T.concat()).flat_map(|row| [64, 63, 80].map(|room| Input::Write { row: row.clone(), room }));
+    let kinds = replaced_in(EVERY_KIND.concat()).flat_map(|row| {
+        let table: Vec<u8> = row.chunks(3).filter(|fact| fact.iter().all(|&n| n < 100_000)).flat_map(line).collect();
+        let read = [24, 23].map(|room| Input::Read { table: table.clone(), room });
+        let ask = |triple| Input::Question { table: table.clone(), triple, allowance: 2, paper: 93 };
+        let asked = [[6, SC, 7], [60000, TYPE, 12], [40000, SC, 7], [10, TYPE, 60000]].map(ask);
+        [Input::Write { row, room: 128 }].into_iter().chain(read).chain(asked)
+    });
+    example.chain(kinds)
+}
+
+/// Two facts of a table with facts of every kind, each with a literal, vocabulary or 0 for a term, or with the fact before it again.
+fn every_literal() -> impl Iterator<Item = Input> {
+    let n = EVERY_KIND.len();
+    let spoilt = |place: usize, how: usize| {
+        let mut fact = EVERY_KIND[place];
+        match how {
+            0 => fact[0] = 40000,
+            1 => fact[2] = 59999,
+            2 => (fact[0], fact[2]) = (40000, 5),
+            3 => (fact[0], fact[2]) = (1, 40000),
+            4 => fact[0] = 6,
+            5 => (fact[0], fact[2]) = (6, 40000),
+            6 => fact[2] = 0,
+            _ => fact = EVERY_KIND[place.saturating_sub(1)],
+        }
+        fact
+    };
+    let places = (0..n).flat_map(move |i| (0..n).map(move |j| (i, j)));
+    places.flat_map(move |(i, j)| (0..64).map(move |how| (i, j, how % 8, how / 8))).flat_map(move |(i, j, one, other)| {
+        let mut facts = EVERY_KIND;
+        facts[i] = spoilt(i, one);
+        facts[j] = spoilt(j, other);
+        [Input::Read { table: table_bytes(&facts), room: 24 }, Input::Write { row: facts.concat(), room: 128 }]
     })
 }
 
@@ -288,15 +336,18 @@ fn every_step() -> impl Iterator<Item = Input> {
             4 => ([a, p, b], [c, q, b]),
             _ => ([a, p, a], [a, p, a]),
         };
-        let mut facts = vec![first, second];
+        // a fact that is not well-formed stands in the derivation alone: its line is false, whatever is said to follow
+        let mut facts: Vec<Fact> = [first, second].into_iter().filter(|&fact| well_formed(fact)).collect();
+        let most = if facts.len() == 2 { 36 } else { 2 };
         facts.sort();
         facts.dedup();
         let table = table_bytes(&facts);
-        let conclusions = [p, q, TYPE, b].into_iter().flat_map(move |r| [first[0], second[0], second[2]].map(|s| (r, s)));
-        conclusions.flat_map(move |(r, s)| [first[2], second[2], second[0]].map(|o| [s, r, o])).flat_map(move |fact| {
+        let ends = [p, q, TYPE, b].into_iter().flat_map(move |r| [first[0], second[0], second[2]].map(|s| (r, s)));
+        let conclusions = ends.flat_map(move |(r, s)| [first[2], second[2], second[0]].map(|o| [s, r, o])).take(most);
+        conclusions.flat_map(move |fact| {
             let table = table.clone();
             // where the line is not well-formed, another triple is put, so that the step is tried
-            let triple = if well_formed(fact) { fact } else { first };
+            let triple = if well_formed(fact) { fact } else { [6, 10, 7] };
             (0..=6).map(move |rule| {
                 let table = table.clone();
                 if rule == 0 {

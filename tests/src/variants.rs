@@ -1,5 +1,6 @@
 //! Broken implementations, each wrong in one part, among them the jams that document 01 expects and what easily goes wrong
-//! with a gap. The comparison must catch every one of them; where it does not, it is too weak.
+//! with a gap and with a literal where a class or a property belongs. The comparison must catch every one of them; where it does
+//! not, it is too weak.
 use crate::calls::Calls;
 use crate::chosen::{all_shortest, chosen_by_range, chosen_upward, fillings, least_fillings, rank};
 use crate::facts::*;
@@ -50,7 +51,11 @@ pub fn all() -> Vec<Named> {
     let table = [of_place(), of_above(), of_number(), of_fault(), of_table(), of_read(), of_row(), of_write(), single];
     let program = [of_divider(), of_program()];
     let gaps = [of_filling(), of_least(), of_named(), of_question_fault(), of_gapped_question(), of_gapped_check()];
-    question.into_iter().chain([in_search()]).chain(gaps).chain(check).chain(table).chain(program).flatten().collect()
+    let class =
+        [of_class(), of_asked_class(), of_class_and_limits(), of_class_in_check(), of_text_in_table(), of_text_line(), of_text_row()];
+    let class = class.into_iter().chain([of_lines_with_class(), of_literal_filling()]);
+    let all = question.into_iter().chain([in_search()]).chain(gaps).chain(class).chain(check).chain(table).chain(program);
+    all.flatten().collect()
 }
 
 // Rules
@@ -60,11 +65,6 @@ type Rules = fn(u32, Fact, Fact) -> Option<Fact>;
 
 /// Broken rules, each with its name.
 const RULES: &[(&str, Rules)] = &[
-    ("LiteralBarredInChain", |rule, p, q| Faithful.gives(rule, p, q).filter(|_| rule != 1 || !is_literal(p[2]))),
-    ("LiteralPredicate", |rule, p, q| match (rule, p, q) {
-        (2, [a, SP, b], [x, a2, y]) if a == a2 => Some([x, b, y]),
-        _ => Faithful.gives(rule, p, q),
-    }),
     ("DomainHandedDown", |rule, p, q| match (rule, p, q) {
         (1, [a, SP, b], [b2, DOM, c]) if b == b2 => Some([a, DOM, c]),
         _ => Faithful.gives(rule, p, q),
@@ -308,6 +308,8 @@ variants! { of_filling: chosen_filling(&self, facts: &[Fact], triple: Fact) -> O
     },
     OtherEndNeverFills => Faithful.chosen_filling(facts, triple).filter(|(filled, _)| filled[0] != filled[2]),
     LiteralNeverFills => Faithful.chosen_filling(facts, triple).filter(|(filled, _)| !is_literal(filled[gap(triple).unwrap_or(1)])),
+    LiteralNeverFillsType => Faithful.chosen_filling(facts, triple).filter(|([s, p, _], _)| *p != TYPE || !is_literal(*s)),
+    LiteralNeverFillsObject => Faithful.chosen_filling(facts, triple).filter(|([_, _, o], _)| gap(triple) != Some(2) || !is_literal(*o)),
     OnlySubjectsFill => {
         let subject = |term: u32| facts.iter().any(|fact| fact[0] == term);
         Faithful.chosen_filling(facts, triple).filter(|(filled, _)| subject(filled[gap(triple).unwrap_or(1)]))
@@ -494,9 +496,160 @@ struct GapInTablePasses;
 impl Parts for GapInTablePasses {
     fn facts(&self, lines: impl Iterator<Item = Option<Fact>>) -> Result<Vec<Fact>, Answer> {
         let lines: Vec<Option<Fact>> = lines.collect();
-        let with_literals = lines.iter().map(|line| line.map(|fact| filled(fact, 40000)));
-        Faithful.facts(with_literals).map(|_| lines.into_iter().flatten().collect())
+        let with_names = lines.iter().map(|line| line.map(|fact| filled(fact, 39999)));
+        Faithful.facts(with_names).map(|_| lines.into_iter().flatten().collect())
     }
+}
+
+// Literals where a class or a property belongs
+
+/// The fact with one term in place of another.
+fn with(fact: Fact, old: u32, new: u32) -> Fact {
+    fact.map(|term| if term == old { new } else { term })
+}
+
+variants! { of_class: fault(&self, fact: Fact) -> Option<u32>;
+    ClassNeverTried => Faithful.fault(fact).filter(|&number| number != 12),
+    ClassCalledPart => Faithful.fault(fact).map(|number| if number == 12 { 5 } else { number }),
+    ClassBeforePart => Faithful.fault(fact).map(|number| if number == 5 && text_as_class(fact) { 12 } else { number }),
+    ClassBeforeBlank => Faithful.fault(fact).map(|number| if number == 4 && text_as_class(fact) { 12 } else { number }),
+    ClassBeforeTerm => Faithful.fault(fact).map(|number| if number == 3 && text_as_class(fact) { 12 } else { number }),
+    SubclassForgotten => Faithful.fault(fact).filter(|&number| number != 12 || fact[1] != SC),
+    SubpropertyForgotten => Faithful.fault(fact).filter(|&number| number != 12 || fact[1] != SP),
+    DomainForgotten => Faithful.fault(fact).filter(|&number| number != 12 || fact[1] != DOM),
+    RangeForgotten => Faithful.fault(fact).filter(|&number| number != 12 || fact[1] != RANGE),
+    LiteralIsAType => Faithful.fault(fact).filter(|&number| number != 12 || fact[1] != TYPE),
+    LiteralSubjectPasses => Faithful.fault(fact).filter(|&number| number != 12 || is_literal(fact[2])),
+    LiteralObjectPasses => Faithful.fault(fact).filter(|&number| number != 12 || is_literal(fact[0]) && fact[1] != TYPE),
+    BothEndsAloneBarred => Faithful.fault(fact).filter(|&number| number != 12 || is_literal(fact[0]) && is_literal(fact[2])),
+    LiteralHasNoTypeFact => Faithful.fault(fact).or((fact[1] == TYPE && is_literal(fact[0])).then_some(12)),
+    LiteralSubjectOfNameBarred => Faithful.fault(fact).or((is_name(fact[1]) && is_literal(fact[0])).then_some(12)),
+    LiteralObjectOfNameBarred => Faithful.fault(fact).or((is_name(fact[1]) && is_literal(fact[2])).then_some(12)),
+    FirstLiteralPasses => Faithful.fault(fact).filter(|&number| number != 12 || text_as_class(with(fact, 40000, 6))),
+    LastLiteralPasses => Faithful.fault(fact).filter(|&number| number != 12 || text_as_class(with(fact, 59999, 6))),
+    LastNameBarred => Faithful.fault(fact).or(text_as_class(with(fact, 39999, 40000)).then_some(12)),
+}
+
+variants! { of_asked_class: question_fault(&self, triple: Fact) -> Option<u32>;
+    GapIsALiteral => Faithful.question_fault(triple).or_else(|| Faithful.fault(filled(triple, 40000))),
+    ClassUntriedWithGap => Faithful.question_fault(triple).filter(|&number| gap(triple).is_none() || number != 12),
+    ClassUntriedWithoutGap => Faithful.question_fault(triple).filter(|&number| gap(triple).is_some() || number != 12),
+}
+
+/// What is said of a question, with 7 or 8 before the triple's 12.
+fn class_after(number: u32, table: &[u8], triple: Fact, allowance: u32, paper: usize) -> Result<Vec<Fact>, Answer> {
+    let verdict = Faithful.sound(table, triple, allowance, paper);
+    match (&verdict, Faithful.sound(table, [6, 6, 6], allowance, paper)) {
+        (Err(Answer { number: 12, place: 0, .. }), Err(other)) if other.number == number => Err(other),
+        _ => verdict,
+    }
+}
+
+variants! { of_class_and_limits: sound(&self, table: &[u8], triple: Fact, allowance: u32, paper: usize) -> Result<Vec<Fact>, Answer>;
+    AllowanceBeforeClass => class_after(7, table, triple, allowance, paper),
+    ShortBeforeClass => class_after(8, table, triple, allowance, paper),
+    AllowanceBeforeClassWithGap => class_after(if gap(triple).is_some() { 7 } else { 0 }, table, triple, allowance, paper),
+    ShortBeforeClassWithGap => class_after(if gap(triple).is_some() { 8 } else { 0 }, table, triple, allowance, paper),
+    ClassAtLineOne => Faithful.sound(table, triple, allowance, paper).map_err(|refusal| match refusal {
+        Answer { number: 12, place: 0, .. } => refused(12, 1),
+        refusal => refusal,
+    }),
+}
+
+variants! { of_class_in_check: judge(&self, table: &[u8], triple: Fact, derivation: &[u8]) -> Result<usize, Answer>;
+    ClassUntriedInCheck => match Faithful.judge(table, triple, derivation) {
+        // as for a triple that ends no derivation
+        Err(Answer { number: 12, place: 0, .. }) => Faithful.judge(table, [6, 6, 6], derivation),
+        verdict => verdict,
+    },
+    FormBeforeClass => match Faithful.judge(table, triple, derivation) {
+        Err(Answer { number: 12, place: 0, .. }) => Faithful.lines(derivation).and(Err(refused(12, 0))),
+        verdict => verdict,
+    },
+    TableLineRefusedAsClass => line_as_class(table, triple, derivation, |rule| rule == 0),
+    RuleLineRefusedAsClass => line_as_class(table, triple, derivation, |rule| rule != 0),
+}
+
+/// The check, in which a false line gets 12 where it has a literal as a class and its rule passes a test.
+fn line_as_class(table: &[u8], triple: Fact, derivation: &[u8], test: fn(u32) -> bool) -> Result<usize, Answer> {
+    match Faithful.judge(table, triple, derivation) {
+        Err(Answer { number: 10, place, .. }) => {
+            let line = Faithful.lines(derivation)?[place as usize - 1];
+            Err(refused(if test(line.rule) && Faithful.fault(line.fact) == Some(12) { 12 } else { 10 }, place))
+        }
+        verdict => verdict,
+    }
+}
+
+variants! { of_text_in_table: in_table(&self, table: &[Fact], fact: Fact) -> bool;
+    TextTakenForATableFact => Faithful.in_table(table, fact) || Faithful.fault(fact) == Some(12),
+    LiteralTypeTakenForATableFact => Faithful.in_table(table, fact) || (Faithful.fault(fact) == Some(12) && fact[1] == TYPE),
+}
+
+variants! { of_text_line: justified(&self, table: &[Fact], lines: &[Line], own: usize) -> bool;
+    TextTakenForARulesResult => {
+        let Line { rule, fact, .. } = lines[own];
+        Faithful.justified(table, lines, own) || (rule != 0 && Faithful.fault(fact) == Some(12))
+    },
+}
+
+variants! { of_text_row: row(&self, row: &[u32]) -> Result<Vec<Fact>, Answer>;
+    ClassUntriedInRows => Class(ClassPlace::Never).row(row),
+    ClassAfterOrderInRows => Class(ClassPlace::BehindOrder).row(row),
+}
+
+/// Where a line is tried for 12 instead of behind 5.
+#[derive(Clone, Copy, PartialEq)]
+enum ClassPlace {
+    Never,
+    BehindOrder,
+    BehindAllLines,
+}
+
+struct Class(ClassPlace);
+impl Parts for Class {
+    fn facts(&self, lines: impl Iterator<Item = Option<Fact>>) -> Result<Vec<Fact>, Answer> {
+        let lines: Vec<Option<Fact>> = lines.collect();
+        let mut facts: Vec<Fact> = Vec::new();
+        for (i, fact) in lines.iter().enumerate() {
+            let fact = fact.ok_or(refused(2, self.place(i)))?;
+            let order = facts.last().filter(|&&before| !self.above(fact, before)).map(|_| 6);
+            let class = text_as_class(fact).then_some(12).filter(|_| self.0 == ClassPlace::BehindOrder);
+            let number = self.fault(fact).filter(|&number| number != 12).or(order).or(class);
+            number.map_or(Ok(()), |number| Err(refused(number, self.place(i))))?;
+            facts.push(fact);
+        }
+        match facts.iter().position(|&fact| text_as_class(fact)).filter(|_| self.0 == ClassPlace::BehindAllLines) {
+            Some(i) => Err(refused(12, self.place(i))),
+            None => Ok(facts),
+        }
+    }
+}
+
+fn of_lines_with_class() -> Vec<Named> {
+    let variant = |name: &str, place| (name.to_string(), Box::new(Class(place)) as Box<dyn Calls>);
+    vec![
+        variant("ClassAfterOrder", ClassPlace::BehindOrder),
+        variant("ClassBehindAllLines", ClassPlace::BehindAllLines),
+        variant("ClassUntriedInTables", ClassPlace::Never),
+    ]
+}
+
+/// A table fact of which the predicate is sc and the object a literal, for a question with a gap there.
+fn literal_above(table: &[u8], [s, p, o]: Fact) -> Option<Fact> {
+    let facts = Class(ClassPlace::Never).table(table).ok().filter(|_| p == SC && is_blank(o))?;
+    facts.into_iter().find(|fact| fact[..2] == [s, SC] && is_literal(fact[2]))
+}
+
+variants! { of_literal_filling: question(&self, table: &[u8], triple: Fact, allowance: u32, paper: &mut [u8]) -> Answer;
+    LiteralFillsClassGap => match (Faithful.question(table, triple, allowance, paper), literal_above(table, triple)) {
+        (Answer { number: 12, .. }, Some(fact)) if allowance > 0 && paper.len() >= Faithful.paper(allowance) => {
+            let bytes = lines::derivation_bytes(&[Line::of_table(fact)]);
+            paper[..bytes.len()].copy_from_slice(&bytes);
+            Answer { filling: fact[2], ..answered(YES, 1) }
+        }
+        (answer, _) => answer,
+    },
 }
 
 // The check
@@ -593,7 +746,10 @@ impl Parts for LineEndIgnored {
 }
 
 variants! { of_fault: fault(&self, fact: Fact) -> Option<u32>;
-    FieldByField => [[fact[0], 6, 6], [6, fact[1], 6], [6, 6, fact[2]]].into_iter().find_map(|one| Faithful.fault(one)),
+    FieldByField => {
+        let one_by_one = [[fact[0], 6, 6], [6, fact[1], 6], [6, 6, fact[2]]].into_iter().find_map(|one| Faithful.fault(one));
+        one_by_one.or(Faithful.fault(fact))
+    },
     PartBeforeBlank => match Faithful.fault(fact) {
         Some(4) if is_vocabulary(fact[0]) || is_vocabulary(fact[2]) || is_literal(fact[1]) => Some(5),
         fault => fault,

@@ -160,17 +160,22 @@ fn with_a_gap_the_derivation_is_the_one_of_least_rank_among_all_shortest_ones_of
 
 const EVERY_CLASS: [u32; 17] = [0, 1, 2, 3, 4, 5, 6, 7, 39999, 40000, 40001, 59999, 60000, 60001, 65535, 65536, u32::MAX];
 
-/// Refusal 3 for a number that is no term; else 4 for a blank predicate or two blanks; else 5 where nothing fills the gap, or
-/// where without one the triple is not well-formed.
+fn triples_of_every_class() -> impl Iterator<Item = Fact> {
+    EVERY_CLASS.into_iter().flat_map(|s| EVERY_CLASS.into_iter().flat_map(move |p| EVERY_CLASS.map(|o| [s, p, o])))
+}
+
+/// Refusal 3 for a number that is no term; else 4 for a blank predicate or two blanks; else 5 for vocabulary at an end or a literal
+/// between them; else 12 where nothing fills the gap, or where without one the triple is not well-formed.
 #[test]
 fn a_question_is_refused_as_document_02_says() {
     let any = |test: fn(u32) -> bool, triple: Fact| triple.into_iter().filter(|&t| test(t)).count();
-    for triple in EVERY_CLASS.into_iter().flat_map(|s| EVERY_CLASS.into_iter().flat_map(move |p| EVERY_CLASS.map(|o| [s, p, o]))) {
+    for triple in triples_of_every_class() {
         let askable = EVERY_CLASS.into_iter().any(|term| fills(triple, filled(triple, term)));
         let expected = match triple {
             _ if any(|t| t == 0 || t > 65535, triple) > 0 => Some(3),
             [_, p, _] if is_blank(p) || any(is_blank, triple) > 1 => Some(4),
-            _ => (!askable).then_some(5),
+            [s, p, o] if (1..6).contains(&s) || (1..6).contains(&o) || p >= 40000 => Some(5),
+            _ => (!askable).then_some(12),
         };
         assert_eq!(Faithful.question_fault(triple), expected, "{triple:?}");
         let [s, p, o] = triple;
@@ -179,15 +184,52 @@ fn a_question_is_refused_as_document_02_says() {
     }
 }
 
+/// Refusal 12 is for what was well-formed in document 01 and is no more.
 #[test]
-fn a_fact_has_no_fault_exactly_when_it_is_well_formed() {
-    for s in EVERY_CLASS {
-        for p in EVERY_CLASS {
-            for o in EVERY_CLASS {
-                assert_eq!(Faithful.fault([s, p, o]).is_none(), well_formed([s, p, o]), "{s} {p} {o}");
-            }
+fn a_fact_has_no_fault_exactly_when_it_is_well_formed_and_12_where_a_literal_is_barred() {
+    let node = |term: u32| (6..60_000).contains(&term);
+    for fact in triples_of_every_class() {
+        let [s, p, o] = fact;
+        let was_well_formed = node(s) && (1..40_000).contains(&p) && node(o);
+        assert_eq!(Faithful.fault(fact).is_none(), well_formed(fact), "{fact:?}");
+        assert_eq!(Faithful.fault(fact) == Some(12), was_well_formed && !well_formed(fact), "{fact:?}");
+    }
+}
+
+/// From well-formed facts every rule writes a well-formed one, so that a search need not try what a step gives. The rules try it
+/// all the same.
+#[test]
+fn no_step_leads_from_well_formed_facts_to_another() {
+    let terms = [6, 7, 8, 40000, 40001];
+    let predicates = [SC, SP, DOM, RANGE, TYPE, 6, 7, 8];
+    let all = terms.into_iter().flat_map(|s| predicates.into_iter().flat_map(move |p| terms.map(|o| [s, p, o])));
+    let facts: Vec<Fact> = all.filter(|&fact| well_formed(fact)).collect();
+    let pairs = facts.iter().flat_map(|&first| facts.iter().map(move |&second| (first, second)));
+    let mut steps = [0; 6];
+    for (first, second) in pairs {
+        for rule in 1..=6 {
+            let given = Faithful.concludes(rule, first, second);
+            assert_eq!(given, Faithful.gives(rule, first, second), "rule {rule} from {first:?} and {second:?}");
+            steps[rule as usize - 1] += usize::from(given.is_some());
         }
     }
+    assert!(steps.iter().all(|&n| n > 20), "{steps:?}");
+}
+
+/// Tables that are accepted have literals wherever they may stand, and derivations lead over them.
+#[test]
+fn many_tables_have_literals_where_they_may_stand() {
+    let mut with = [0; 3];
+    for (facts, _) in questions(8, 2000, 20) {
+        assert_eq!(Faithful.table(&lines::table_bytes(&facts)), Ok(facts.clone()));
+        let derived = closure(&Faithful, &facts);
+        let has = |test: fn(Fact) -> bool| derived.iter().any(|&fact| !facts.contains(&fact) && test(fact));
+        let shown =
+            [has(|[s, p, _]| p == TYPE && is_literal(s)), has(|[s, p, _]| is_name(p) && is_literal(s)), has(|[_, _, o]| is_literal(o))];
+        with.iter_mut().zip(shown).for_each(|(n, shows)| *n += usize::from(shows));
+    }
+    println!("tables from which follow a literal's type, a literal subject, a literal object: {with:?}");
+    assert!(with.iter().all(|&n| n > 100), "{with:?}");
 }
 
 #[test]

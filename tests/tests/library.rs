@@ -8,6 +8,7 @@ use factbox_tests::gaps::ties;
 use factbox_tests::generate::test_inputs;
 use factbox_tests::library::Library;
 use factbox_tests::parts::{Faithful, Parts};
+use factbox_tests::shown::{self, KINDS};
 
 #[test]
 fn the_library_has_the_papers_own_cases() {
@@ -28,14 +29,21 @@ fn shows(input: &Input) -> [bool; 3] {
     [!has_gap && several(&facts, *triple), has_gap, least.len() > 1]
 }
 
+/// Adds to each number whether the input shows what it counts.
+fn add<const K: usize>(counts: &mut [usize; K], shows: [bool; K]) {
+    counts.iter_mut().zip(shows).for_each(|(n, shows)| *n += usize::from(shows));
+}
+
 #[test]
 fn the_library_does_as_the_papers_say() {
     let library = Library::from_environment();
     let mut counts = [0; 5];
     let mut shown = [0; 3];
+    let mut kinds = [0; KINDS.len()];
     for input in test_inputs() {
         compare(&library, &input).unwrap_or_else(|e| panic!("{e}\n{input}"));
-        shown.iter_mut().zip(shows(&input)).for_each(|(n, shows)| *n += usize::from(shows));
+        add(&mut shown, shows(&input));
+        add(&mut kinds, shown::shown(&input));
         counts[match input {
             Input::Question { .. } => 0,
             Input::Check { .. } => 1,
@@ -48,6 +56,10 @@ fn the_library_does_as_the_papers_say() {
     let ([question, check, read, write, program], [choices, gaps, ties]) = (counts, shown);
     println!("{total} inputs agree: question {question}, check {check}, read {read}, write {write}, program {program}");
     println!("{choices} yes to one of several shortest derivations, {gaps} to a gap, {ties} of them to one of several least fillings");
+    for (kind, n) in KINDS.iter().zip(kinds) {
+        println!("{n} inputs with {kind}");
+        assert!(n >= 500, "too few inputs with {kind}: {n}");
+    }
     assert!(total >= 200_000 && choices >= 5_000 && gaps >= 20_000 && ties >= 5_000, "too few inputs: {total}, {choices}, {gaps}, {ties}");
 }
 

@@ -10,7 +10,7 @@ use std::sync::atomic::{AtomicUsize, Ordering::Relaxed};
 /// passes with another, and not with a filling that is none of them.
 #[test]
 fn any_least_filling_may_be_named_and_no_other() {
-    let inputs = || cases::gaps().chain(gaps::ties());
+    let inputs = || cases::questions().chain(gaps::ties());
     let verdict = |variant: &AnyChoice| inputs().map(|input| compare(variant, &input)).find(Result::is_err).unwrap_or(Ok(()));
     for (name, variant) in free_choices() {
         assert_eq!(verdict(&AnyChoice(variant)), Ok(()), "{name}");
