@@ -1,7 +1,8 @@
 #!/usr/bin/env python3
 """Writes crates/check_cases/stdin and stdout: derivations put to the check, sound and damaged, with the answer to each.
 
-Every answer is written down here from document 01 and none is computed. A case in stdin is a line of five fields (bytes of the
+Every answer is written down here from document 01, and from document 02 for gaps and for literals that stand as a class or a property,
+and none is computed. A case in stdin is a line of five fields (bytes of the
 table, bytes of the derivation, subject, predicate, object of the fact put), then those bytes. Its answer in stdout is number,
 place, count.
 """
@@ -87,12 +88,12 @@ case([(30, 2, 30)], (30, 2, 30), [given(30, 2, 30), (1, 1, 1, 30, 2, 30)], 93, 0
 case([(30, 1, 30)], (30, 1, 30), [given(30, 1, 30), (3, 1, 1, 30, 1, 30)], 93, 0, 1)
 # A chain that comes back to its start (document 01, f).
 case([(10, 1, 11), (11, 1, 10)], (10, 1, 10), [given(10, 1, 11), given(11, 1, 10), (3, 1, 2, 10, 1, 10)], 93, 0, 2)
-# A literal inside an sp chain (document 01, h).
-case([(6, 7, 8), (7, 2, 40000), (40000, 2, 9)], (6, 9, 8),
-     [given(7, 2, 40000), given(40000, 2, 9), (1, 1, 2, 7, 2, 9), given(6, 7, 8), (2, 3, 4, 6, 9, 8)], 93, 0, 3)
-# Range types a literal, and a literal is a class.
-case([(10, 14, 40000), (14, 4, 59999)], (40000, 5, 59999),
-     [given(14, 4, 59999), given(10, 14, 40000), (6, 1, 2, 40000, 5, 59999)], 93, 0, 2)
+# Literals at both ends of a fact that is lifted.
+case([(7, 2, 9), (40000, 7, 59999)], (40000, 9, 59999), [given(7, 2, 9), given(40000, 7, 59999), (2, 1, 2, 40000, 9, 59999)], 93, 0, 2)
+# Range types a literal, and so does domain; the class above is its type too.
+case([(10, 14, 40000), (14, 4, 11)], (40000, 5, 11), [given(14, 4, 11), given(10, 14, 40000), (6, 1, 2, 40000, 5, 11)], 93, 0, 2)
+case([(14, 3, 11), (59999, 14, 40000)], (59999, 5, 11), [given(14, 3, 11), given(59999, 14, 40000), (5, 1, 2, 59999, 5, 11)], 93, 0, 2)
+case([(11, 1, 12), (40000, 5, 11)], (40000, 5, 12), [given(11, 1, 12), given(40000, 5, 11), (4, 1, 2, 40000, 5, 12)], 93, 0, 2)
 # Rule 2 onto the last name.
 case([(10, 14, 20), (14, 2, 39999)], (10, 39999, 20),
      [given(14, 2, 39999), given(10, 14, 20), (2, 1, 2, 10, 39999, 20)], 93, 0, 2)
@@ -207,9 +208,33 @@ for fact in ((0, 14, 20), (10, 0, 20), (10, 14, 0), (60000, 14, 20), (10, 65535,
              (10, 65536, 20), (10, 14, 65536), (65546, 14, 20), (10, 65550, 20), (10, 14, 65556), (99999, 99999, 99999),
              (5, 14, 20), (10, 14, 1), (10, 40000, 20), (10, 59999, 20)):
     case(T, PUT, but(EXAMPLE, 3, (2, 1, 2, *fact)), 10, 3, 0)
-# Rule 2 onto a literal gives nothing well-formed, and so its domain never fires (document 01, i).
-case([(6, 7, 8), (7, 2, 40000), (40000, 3, 9)], (6, 5, 9),
-     [given(7, 2, 40000), given(6, 7, 8), (2, 1, 2, 6, 40000, 8), given(40000, 3, 9), (5, 4, 3, 6, 5, 9)], 10, 3, 0)
+
+# ---- 10: a literal as a class or a property (never 12), where the table is sound and so is the fact put (document 02, Point 2)
+
+# Marked as a table line, in front of another and behind it.
+BARRED = ((40000, 1, 12), (11, 1, 40000), (59999, 2, 14), (13, 2, 59999), (40000, 3, 11), (14, 3, 40000), (40000, 4, 11), (14, 4, 59999),
+          (10, 5, 40000), (40000, 5, 40001), (40000, 1, 40000))
+for fact in BARRED:
+    case(T, T[0], [given(*fact), given(*T[0])], 10, 1, 0)
+    case(T, T[0], [given(*T[0]), given(*fact)], 10, 2, 0)
+# Marked as a rule line, with premises that are sound; and the same over a premise that is not, which is then the first false line.
+for fact in BARRED:
+    for rule in (1, 2):
+        case(T, (10, 14, 20), EXAMPLE[:2] + [(rule, 1, 2, *fact)], 10, 3, 0)
+for rule in (3, 4, 5, 6):
+    case(T, PUT, but(EXAMPLE, 7, (rule, 6, 5, 10, 5, 40000)), 10, 7, 0)
+case(T, (10, 13, 20), [given(13, 2, 40000), given(10, 13, 20), (2, 1, 2, 10, 40000, 20)], 10, 1, 0)
+case(T, (10, 5, 12), [given(10, 5, 40000), given(40000, 1, 12), (4, 2, 1, 10, 5, 12)], 10, 1, 0)
+case(T, (11, 1, 12), [given(11, 1, 12), given(12, 1, 40000), (3, 1, 2, 11, 1, 40000), given(11, 1, 12)], 10, 2, 0)
+# The derivations of document 01's cases h and i, over the tables without their literals.
+case([(6, 7, 8)], (6, 9, 8), [given(7, 2, 40000), given(40000, 2, 9), (1, 1, 2, 7, 2, 9), given(6, 7, 8), (2, 3, 4, 6, 9, 8)], 10, 1, 0)
+case([(6, 7, 8)], (6, 5, 9), [given(6, 7, 8), given(7, 2, 40000), (2, 2, 1, 6, 40000, 8), given(40000, 3, 9), (5, 4, 3, 6, 5, 9)], 10, 2, 0)
+# Layout comes first, the end behind.
+case(T, PUT, but_bytes(but(EXAMPLE, 2, given(10, 5, 40000)), 7, 30, b" "), 9, 7, 0)
+case(T, (10, 5, 13), but(EXAMPLE, 6, given(11, 1, 40000)), 10, 6, 0)
+
+# ---- 10: which line
+
 # The first of two false steps, and a false step before the wrong end.
 case(T, PUT, but(but(EXAMPLE, 5, (6, 4, 3, 10, 5, 11)), 3, (2, 2, 1, 10, 14, 20)), 10, 3, 0)
 case(T, (10, 5, 13), but(EXAMPLE, 5, (6, 4, 3, 10, 5, 11)), 10, 5, 0)
@@ -255,7 +280,7 @@ case(T, PUT, NINE, 10, 2, 0)
 case(T, PUT, but_bytes(NINE, 9, 14, b" "), 9, 9, 0)
 case(T, (10, 5, 13), but_bytes(EXAMPLE, 3, 0, b"0"), 9, 3, 0)
 
-# ---- 3, 4, 5 for the fact put (place 0), before 9
+# ---- 3, 4, 5, 12 for the fact put (place 0), before 9
 
 for put, number in (
         # 0, or above 65535
@@ -266,8 +291,16 @@ for put, number in (
         # vocabulary as subject or object, a literal as predicate
         ((5, 1, 10), 5), ((1, 5, 12), 5), ((10, 5, 1), 5), ((10, 5, 5), 5), ((10, 40000, 12), 5), ((10, 59999, 12), 5),
         # 3 over the whole width, then 4, then 5
-        ((60000, 40000, 0), 3), ((5, 40000, 65536), 3), ((5, 40000, 60000), 4)):
+        ((60000, 40000, 0), 3), ((5, 40000, 65536), 3), ((5, 40000, 60000), 4),
+        # 12 behind each of them
+        ((40000, 1, 0), 3), ((65536, 5, 40000), 3), ((40000, 1, 60000), 4), ((60000, 5, 40000), 4),
+        ((40000, 1, 5), 5), ((1, 5, 40000), 5), ((40000, 40000, 40000), 5)):
     case(T, put, b"", number, 0, 0)
+for put in BARRED:
+    case(T, put, b"", 12, 0, 0)
+    # Though a derivation ends in it, by a false step, or otherwise.
+    case(T, put, EXAMPLE[:2] + [(2, 1, 2, *put)], 12, 0, 0)
+    case(T, put, [given(*T[0])], 12, 0, 0)
 # Also before a false step and before the wrong end.
 case(T, (5, 1, 10), EXAMPLE, 5, 0, 0)
 case(T, (10, 5, 60000), NINE, 4, 0, 0)
@@ -290,7 +323,8 @@ for blank in (60000, 65535):
     case(T, PUT, but(EXAMPLE, 2, given(10, 13, blank)), 10, 2, 0)
     case(T, PUT, but(EXAMPLE, 6, given(11, blank, 12)), 10, 6, 0)
 # The last and first of each kind that pass: then it is the derivation's turn.
-for put in ((6, 39999, 59999), (39999, 6, 40000), (40000, 5, 6), (59999, 1, 39999)):
+for put in ((6, 39999, 59999), (39999, 6, 40000), (40000, 5, 6), (59999, 5, 39999), (40000, 6, 59999), (39999, 1, 39999),
+            (39999, 4, 39999)):
     case(T, put, b"", 9, 0, 0)
 
 # ---- the table's own refusals, before all others: the fact put has a fault and the derivation has no bytes
@@ -301,10 +335,20 @@ for table, *answer in (
         ([(0, 13, 20)] + T[1:], 3, 1), (T + [(15, 5, 65536)], 3, 5),
         (T[:2] + [(13, 2, 60000)], 4, 3), (T + [(65535, 5, 11)], 4, 5),
         ([(5, 1, 10)] + T, 5, 1), ([(10, 40000, 20)] + T[1:], 5, 1), (T + [(15, 5, 5)], 5, 5),
-        (T[:1] + T, 6, 2), (T + [(14, 3, 11)], 6, 5), (T + [(14, 2, 12)], 6, 5)):
+        (T[:1] + T, 6, 2), (T + [(14, 3, 11)], 6, 5), (T + [(14, 2, 12)], 6, 5),
+        # 12: document 01's cases h and i, behind 5, before 6, and on an earlier or a later line than others
+        ([(6, 7, 8), (7, 2, 40000), (40000, 2, 9)], 12, 2), ([(6, 7, 8), (7, 2, 40000), (40000, 3, 9)], 12, 2),
+        (T + [(40000, 1, 5)], 5, 5), (T + [(14, 1, 40000)], 12, 5), (T + [(15, 5, 40000)], 12, 5), (T + [(59999, 4, 11)], 12, 5),
+        ([(6, 1, 40000)] + T[:1] + T, 12, 1), (T[:1] + T + [(40000, 1, 6)], 6, 2), ([(6, 3, 5)] + T + [(40000, 1, 6)], 5, 1)):
     case(table, (0, 0, 0), b"", *answer, 0)
 # A right derivation does not help a table that is refused.
 case(T + [(14, 3, 11)], PUT, EXAMPLE, 6, 5, 0)
+case(T + [(15, 5, 40000)], PUT, EXAMPLE, 12, 5, 0)
+# Nor those that document 01 had for its cases h and i.
+case([(6, 7, 8), (7, 2, 40000), (40000, 2, 9)], (6, 9, 8),
+     [given(7, 2, 40000), given(40000, 2, 9), (1, 1, 2, 7, 2, 9), given(6, 7, 8), (2, 3, 4, 6, 9, 8)], 12, 2, 0)
+case([(6, 7, 8), (7, 2, 40000), (40000, 3, 9)], (6, 5, 9),
+     [given(7, 2, 40000), given(6, 7, 8), (2, 1, 2, 6, 40000, 8), given(40000, 3, 9), (5, 4, 3, 6, 5, 9)], 12, 2, 0)
 
 # ---- the most lines
 

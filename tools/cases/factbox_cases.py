@@ -1,6 +1,6 @@
 #!/usr/bin/env python3
 """Writes crates/factbox_cases/stdin and stdout: whole inputs of the program, each with the output that document 01 gives it, and
-document 02 where a question has a gap.
+document 02 where a question has a gap or a literal stands as a class or a property.
 
 The outputs are written by hand, as numbers; no implementation computes them. Only the derivations of long chains are put together
 here, line by line in document 01's order, from facts that are listed in that order. Where several shortest derivations exist, the
@@ -65,13 +65,12 @@ asked(
     ("11 1 11 4", "90 0 2; 0 0 0 11 1 10; 0 0 0 10 1 11; 3 1 2 11 1 11"),
     ("10 1 12 4", "91 0 0"),
 )
-asked(
-    "h: a literal inside an sp chain", "6 7 8; 7 2 40000; 40000 2 9",
-    ("6 9 8 4", "90 0 3; 0 0 0 7 2 40000; 0 0 0 40000 2 9; 1 1 2 7 2 9; 0 0 0 6 7 8; 2 3 4 6 9 8"),
-    ("7 2 9 4", "90 0 2; 0 0 0 7 2 40000; 0 0 0 40000 2 9; 1 1 2 7 2 9"),
-    ("6 40000 8 4", "5 0 0"),
-)
-asked("i: a literal's dom fact does not fire", "6 7 8; 7 2 40000; 40000 3 9", ("6 5 9 4", "91 0 0"), ("40000 3 9 4", "90 0 1; 0 0 0 40000 3 9"))
+for name, table, question in (("h", "6 7 8; 7 2 40000; 40000 2 9", "6 9 8"), ("i", "6 7 8; 7 2 40000; 40000 3 9", "6 5 9")):
+    asked(
+        name + ": a literal as a property refuses the table, whatever the allowance and the question", table,
+        (question + " 4", "12 2 0"), (question + " 0", "12 2 0"), (question + " 1024", "12 2 0"), (question + " 1025", "12 2 0"),
+        ("6 7 8 4", "12 2 0"), ("0 0 0 0", "12 2 0"), ("60000 7 8 4", "12 2 0"), ("7 2 60000 4", "12 2 0"), ("7 2 40000 4", "12 2 0"),
+    )
 asked("j: the shorter derivation, not the first", "6 5 10; 6 7 8; 7 3 10", ("6 5 10 4", "90 0 1; 0 0 0 6 5 10"))
 asked(
     "k: two equal lines; the table's refusal comes first, for each question", "10 1 11; 10 1 11",
@@ -80,17 +79,6 @@ asked(
 
 # ---- the jams that document 01 expects, further
 
-asked("a literal's range fact does not fire", "6 7 8; 7 2 40000; 40000 4 9", ("8 5 9 4", "91 0 0"))
-asked(
-    "a name behind a literal: its dom fact fires", "6 7 8; 7 2 40000; 9 3 10; 40000 2 9",
-    ("6 5 10 4", "90 0 4; 0 0 0 7 2 40000; 0 0 0 40000 2 9; 1 1 2 7 2 9; 0 0 0 6 7 8; 2 3 4 6 9 8; 0 0 0 9 3 10; 5 6 5 6 5 10"),
-)
-asked(
-    "literals in an sc chain", "6 1 40000; 40000 1 40001; 40001 1 7",
-    ("6 1 7 4", "90 0 3; 0 0 0 6 1 40000; 0 0 0 40000 1 40001; 3 1 2 6 1 40001; 0 0 0 40001 1 7; 3 3 4 6 1 7"),
-    ("40000 1 7 4", "90 0 2; 0 0 0 40000 1 40001; 0 0 0 40001 1 7; 3 1 2 40000 1 7"),
-)
-asked("a literal as class", "6 5 40000; 40000 1 7", ("6 5 7 4", "90 0 2; 0 0 0 6 5 40000; 0 0 0 40000 1 7; 4 2 1 6 5 7"))
 asked("a literal as subject", "7 3 9; 40000 7 8", ("40000 5 9 4", "90 0 2; 0 0 0 40000 7 8; 0 0 0 7 3 9; 5 2 1 40000 5 9"))
 asked("range types the object alone", "6 7 8; 7 4 9", ("6 5 9 4", "91 0 0"), ("8 5 9 4", "90 0 2; 0 0 0 6 7 8; 0 0 0 7 4 9; 6 2 1 8 5 9"))
 asked("domain types the subject alone", "6 7 8; 7 3 9", ("8 5 9 4", "91 0 0"), ("6 5 9 4", "90 0 2; 0 0 0 6 7 8; 0 0 0 7 3 9; 5 2 1 6 5 9"))
@@ -191,7 +179,7 @@ asked(
     "gaps that nothing fills, put to T", T,
     ("60000 1 11 4", "91 0 0"), ("12 1 60000 4", "91 0 0"), ("60000 2 13 0", "91 0 0"), ("13 3 60000 4", "91 0 0"),
     ("60000 4 11 4", "91 0 0"), ("14 4 60000 1024", "91 0 0"), ("20 5 60000 4", "91 0 0"), ("60000 5 20 4", "91 0 0"),
-    ("60000 13 10 4", "91 0 0"), ("20 13 60000 4", "91 0 0"), ("60000 5 40000 4", "91 0 0"),
+    ("60000 13 10 4", "91 0 0"), ("20 13 60000 4", "91 0 0"), ("60000 13 40000 4", "91 0 0"),
 )
 asked("gaps over the empty table", "", ("60000 1 11 4", "91 0 0"), ("10 7 60000 0", "91 0 0"), ("10 5 65535 1024", "91 0 0"))
 asked(
@@ -243,18 +231,11 @@ asked(
     ("6 10 60000 4", "90 0 1; 0 0 0 6 10 11"), ("60000 10 9 4", "90 0 2; 0 0 0 8 2 10; 0 0 0 6 8 9; 2 1 2 6 10 9"),
 )
 asked(
-    "literals fill gaps", "6 7 40000; 7 4 59999",
-    ("60000 5 59999 4", "90 0 2; 0 0 0 6 7 40000; 0 0 0 7 4 59999; 6 2 1 40000 5 59999"),
-    ("40000 5 60000 4", "90 0 2; 0 0 0 6 7 40000; 0 0 0 7 4 59999; 6 2 1 40000 5 59999"),
+    "literals fill gaps", "6 7 40000; 7 4 9",
+    ("60000 5 9 4", "90 0 2; 0 0 0 6 7 40000; 0 0 0 7 4 9; 6 2 1 40000 5 9"),
+    ("40000 5 60000 4", "90 0 2; 0 0 0 6 7 40000; 0 0 0 7 4 9; 6 2 1 40000 5 9"),
     ("6 7 60000 4", "90 0 1; 0 0 0 6 7 40000"), ("60000 7 40000 4", "90 0 1; 0 0 0 6 7 40000"),
 )
-asked(
-    "h with a gap", "6 7 8; 7 2 40000; 40000 2 9",
-    ("6 9 60000 4", "90 0 3; 0 0 0 7 2 40000; 0 0 0 40000 2 9; 1 1 2 7 2 9; 0 0 0 6 7 8; 2 3 4 6 9 8"),
-    ("60000 9 8 3", "90 0 3; 0 0 0 7 2 40000; 0 0 0 40000 2 9; 1 1 2 7 2 9; 0 0 0 6 7 8; 2 3 4 6 9 8"),
-    ("60000 2 9 4", "90 0 1; 0 0 0 40000 2 9"), ("7 2 60000 4", "90 0 1; 0 0 0 7 2 40000"), ("6 40000 60000 4", "5 0 0"),
-)
-asked("i with a gap", "6 7 8; 7 2 40000; 40000 3 9", ("60000 5 9 4", "91 0 0"), ("6 5 60000 4", "91 0 0"), ("60000 3 9 4", "90 0 1; 0 0 0 40000 3 9"))
 asked(
     "of two fillings the one whose last fact stands earliest", "6 9 7; 7 8 6; 8 3 30; 9 3 30",
     ("60000 5 30 4", "90 0 2; 0 0 0 7 8 6; 0 0 0 8 3 30; 5 2 1 7 5 30"),
@@ -279,6 +260,52 @@ asked(
 asked("a type that the table has, before a class by domain", "6 5 10; 6 5 11; 6 7 8; 7 3 9", ("6 5 60000 4", "90 0 1; 0 0 0 6 5 10"))
 asked("the table's refusal before the gap", "10 1 11; 10 1 11", ("60000 1 11 4", "6 2 0"), ("60000 1 60000 4", "6 2 0"))
 asked("a blank in the table gets 4, and is no gap", "10 13 20; 65535 5 11", ("60000 5 11 4", "4 2 0"), ("10 13 60000 4", "4 2 0"))
+
+# ---- literals: never subject or object of sc, sp, dom or range, nor object of type (document 02, Point 2)
+
+for predicate in ("1", "2", "3", "4"):
+    asked("a literal as subject", f"10 13 20; 40000 {predicate} 6", ("10 13 20 4", "12 2 0"), (f"60000 {predicate} 6 4", "12 2 0"))
+    asked("a literal as object", f"6 {predicate} 59999", (f"6 {predicate} 60000 4", "12 1 0"), ("10 13 20 4", "12 1 0"))
+    asked(
+        "the last name as subject and object, and questions with literals", f"39999 {predicate} 39999",
+        (f"39999 {predicate} 39999 4", f"90 0 1; 0 0 0 39999 {predicate} 39999"),
+        (f"40000 {predicate} 39999 4", "12 0 0"), (f"39999 {predicate} 40000 4", "12 0 0"), (f"59999 {predicate} 59999 0", "12 0 0"),
+        (f"60000 {predicate} 40000 4", "12 0 0"), (f"40000 {predicate} 60000 4", "12 0 0"), (f"65535 {predicate} 59999 0", "12 0 0"),
+        (f"60000 {predicate} 39999 4", f"90 0 1; 0 0 0 39999 {predicate} 39999"),
+    )
+asked("a literal as object of type", "6 5 40000; 40000 7 8", ("6 5 60000 4", "12 1 0"), ("40000 7 8 4", "12 1 0"))
+asked(
+    "a literal as subject of type", "11 1 12; 40000 5 11",
+    ("40000 5 11 4", "90 0 1; 0 0 0 40000 5 11"),
+    ("40000 5 12 4", "90 0 2; 0 0 0 40000 5 11; 0 0 0 11 1 12; 4 2 1 40000 5 12"),
+    ("60000 5 12 4", "90 0 2; 0 0 0 40000 5 11; 0 0 0 11 1 12; 4 2 1 40000 5 12"),
+    ("40000 5 60000 1", "90 0 1; 0 0 0 40000 5 11"), ("40001 5 11 4", "91 0 0"), ("40001 5 60000 4", "91 0 0"),
+    ("11 5 40000 4", "12 0 0"), ("40000 5 40000 4", "12 0 0"), ("60000 5 40000 4", "12 0 0"), ("60000 5 59999 0", "12 0 0"),
+)
+asked(
+    "literals at both ends of a name", "7 2 8; 8 3 9; 8 4 10; 40000 7 59999",
+    ("40000 8 59999 4", "90 0 2; 0 0 0 7 2 8; 0 0 0 40000 7 59999; 2 1 2 40000 8 59999"),
+    ("60000 8 59999 4", "90 0 2; 0 0 0 7 2 8; 0 0 0 40000 7 59999; 2 1 2 40000 8 59999"),
+    ("40000 8 60000 2", "90 0 2; 0 0 0 7 2 8; 0 0 0 40000 7 59999; 2 1 2 40000 8 59999"),
+    ("40000 5 9 4", "90 0 3; 0 0 0 7 2 8; 0 0 0 40000 7 59999; 2 1 2 40000 8 59999; 0 0 0 8 3 9; 5 4 3 40000 5 9"),
+    ("59999 5 10 4", "90 0 3; 0 0 0 7 2 8; 0 0 0 40000 7 59999; 2 1 2 40000 8 59999; 0 0 0 8 4 10; 6 4 3 59999 5 10"),
+    ("60000 5 10 4", "90 0 3; 0 0 0 7 2 8; 0 0 0 40000 7 59999; 2 1 2 40000 8 59999; 0 0 0 8 4 10; 6 4 3 59999 5 10"),
+    ("59999 5 9 4", "91 0 0"), ("40000 5 10 4", "91 0 0"), ("59999 8 40000 4", "91 0 0"),
+)
+asked(
+    "3, 4, 5, 12, 7 in this order, over the whole triple", T,
+    ("40000 1 0 4", "3 0 0"), ("65536 5 40000 4", "3 0 0"), ("60000 60000 40000 4", "4 0 0"), ("40000 60000 60000 4", "4 0 0"),
+    ("40000 1 5 4", "5 0 0"), ("1 5 40000 4", "5 0 0"), ("40000 4 3 1025", "5 0 0"), ("60000 40000 40000 4", "5 0 0"),
+    ("40000 1 12 1025", "12 0 0"), ("10 5 40000 99999", "12 0 0"), ("60000 1 40000 1025", "12 0 0"), ("40000 3 65535 1025", "12 0 0"),
+    ("40000 5 12 1025", "7 0 0"), ("40000 13 40000 1025", "7 0 0"), ("40000 5 60000 1025", "7 0 0"),
+)
+for table, reply in (
+    ("40000 1 0", "3 1 0"), ("40000 1 60000", "4 1 0"), ("40000 1 5", "5 1 0"), ("1 5 40000", "5 1 0"), ("6 40000 40000", "5 1 0"),
+    ("10 1 11; 6 1 40000", "12 2 0"), ("40000 7 6; 40000 1 6", "12 2 0"), ("40000 1 6; 40000 1 6", "12 1 0"),
+    ("6 1 40000; 6 1 7", "12 1 0"), ("6 1 40000; 7 1 5", "12 1 0"), ("6 5 40000; 7 1 0", "12 1 0"), ("6 4 40000; 7 1 60000", "12 1 0"),
+    ("6 1 5; 6 1 40000", "5 1 0"), ("6 1 0; 6 1 40000", "3 1 0"), ("6 1 60000; 7 1 40000", "4 1 0"), ("6 1 7; 6 1 7; 6 1 40000", "6 2 0"),
+):
+    asked("12 behind 3, 4 and 5 of its line, before 6, and before what later lines earn", table, ("6 1 7 4", reply), ("40000 1 7 1025", reply))
 
 # ---- tables that are refused
 
@@ -362,16 +389,16 @@ def chain(predicate, nodes):
     return [(a, predicate, b) for a, b in zip(nodes, nodes[1:])]
 
 
-CLASSES = [*range(10000, 10300), *range(50000, 50212)]
-PROPERTIES = [*range(30000, 30200), *range(40000, 40310), 39999]
+CLASSES = [*range(10000, 10300), *range(20000, 20212)]
+PROPERTIES = [*range(30000, 30200), *range(39000, 39310), 39999]
 needs_all("an sc chain of 1,024 facts", chain(1, range(6, 1031)), (6, 1, 1030))
 needs_all(
     "510 sp facts, a data fact, a dom fact and 512 sc facts",
     chain(2, PROPERTIES) + [(8, PROPERTIES[0], 9), (PROPERTIES[-1], 3, 7)] + chain(1, [7, *CLASSES]), (8, 5, CLASSES[-1]),
 )
-BY_RANGE = chain(2, PROPERTIES) + [(8, PROPERTIES[0], 9), (PROPERTIES[-1], 4, 7)] + chain(1, [7, *reversed(CLASSES)])
-needs_all("the same by range, the classes taken backwards", BY_RANGE, (9, 5, CLASSES[0]))
-needs_all("the same with a gap, which 9 fills", BY_RANGE, (65535, 5, CLASSES[0]))
+BY_RANGE = chain(2, PROPERTIES) + [(8, PROPERTIES[0], 59999), (PROPERTIES[-1], 4, 7)] + chain(1, [7, *reversed(CLASSES)])
+needs_all("the same by range of a literal, the classes taken backwards", BY_RANGE, (59999, 5, CLASSES[0]))
+needs_all("the same with a gap, which the literal fills", BY_RANGE, (65535, 5, CLASSES[0]))
 
 (CRATE / "stdin").write_bytes(b"".join(stdin))
 (CRATE / "stdout").write_bytes(b"".join(stdout))

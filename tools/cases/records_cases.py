@@ -1,7 +1,8 @@
 #!/usr/bin/env python3
-"""Writes crates/records_cases/stdin and stdout: tables read into lent fact records, with the answer that document 01 gives each.
+"""Writes crates/records_cases/stdin and stdout: tables read into lent fact records, with the answer that document 01 gives each, and
+document 02 where a literal stands as a class or a property.
 
-Every answer is written down here from document 01 and none is computed. A case in stdin is a line of two fields (bytes of the table,
+Every answer is written down here from the papers and none is computed. A case in stdin is a line of two fields (bytes of the table,
 records lent), then those bytes. Its answer in stdout is number, place, count and a 1, which says that every record is as it must be:
 the first count records hold the table's facts, line by line, and all others, lent or not, what they held before.
 """
@@ -57,6 +58,12 @@ for table, *answer in (
         (T + [(15, 5, 65536)], 3, 5), (T + [(15, 0, 20)], 3, 5),
         (T[:3] + [(14, 3, 60000)], 4, 4), (T[:3] + [(65535, 3, 11)], 4, 4),
         (T[:3] + [(14, 40000, 20)], 5, 4), (T[:3] + [(14, 3, 5)], 5, 4), ([(5, 1, 10)] + T, 5, 1),
+        (T[:3] + [(40000, 1, 5)], 5, 4), (T + [(15, 1, 5), (15, 1, 40000)], 5, 5),
+        # 12: document 01's cases h and i, each predicate, and before 6 and what later lines earn
+        ([(6, 7, 8), (7, 2, 40000), (40000, 2, 9)], 12, 2), ([(6, 7, 8), (7, 2, 40000), (40000, 3, 9)], 12, 2),
+        (T + [(59999, 1, 12)], 12, 5), (T + [(40000, 2, 14)], 12, 5), (T + [(14, 3, 59999)], 12, 5), (T + [(15, 4, 40000)], 12, 5),
+        (T + [(15, 5, 40000)], 12, 5), (T + [(14, 2, 40000)], 12, 5), (T[:1] + [(6, 1, 40000)] + T[1:], 12, 2),
+        (T + [(15, 1, 40000), (16, 1, 5)], 12, 5), (T + [(15, 1, 40000), (16, 1, 0)], 12, 5),
         (T + T[3:], 6, 5), (T + [(14, 2, 12)], 6, 5), (T[1:] + T[:1], 6, 4)):
     case(table, 1024, *answer, 0)
     # They come before 8.
@@ -70,6 +77,14 @@ case([(10, 13, 59999)], 1, 0, 0, 1)
 case([(10, 13, 60000)], 1, 4, 1, 0)
 # A record has each number whole: the largest terms, and the order subject, predicate, object.
 case([(6, 39999, 59999), (59999, 6, 40000)], 2, 0, 0, 2)
+# Literals where they may stand; and where they may not, the last name, which passes, and the first literal.
+case([(6, 7, 40000), (40000, 5, 6), (40001, 7, 59999)], 3, 0, 0, 3)
+for predicate in (1, 2, 3, 4):
+    case([(39999, predicate, 39999)], 1, 0, 0, 1)
+    case([(40000, predicate, 39999)], 1, 12, 1, 0)
+    case([(39999, predicate, 40000)], 1, 12, 1, 0)
+case([(40000, 5, 39999)], 1, 0, 0, 1)
+case([(39999, 5, 40000)], 1, 12, 1, 0)
 
 (CRATE / "stdin").write_bytes(b"".join(stdin))
 (CRATE / "stdout").write_bytes(b"".join(stdout))

@@ -1,5 +1,6 @@
 #!/usr/bin/env python3
-"""Writes crates/table_cases/stdin and stdout: cases of reading and writing tables, each with the answer that document 01 gives it.
+"""Writes crates/table_cases/stdin and stdout: cases of reading and writing tables, each with the answer that document 01 gives it, and
+document 02 where a literal stands as a class or a property.
 
 The answers are written by hand, as number, place, count; no implementation computes them. What the program prints for a case is
 these three and a 1, which says that memory is as it must be: what was read is written again to the same bytes (and the other way
@@ -35,7 +36,7 @@ def lines(*texts):
     return b"".join(t + b"\n" for t in texts)
 
 
-DONE, SIZE, COLUMN, TERM, BLANK, PART, ORDER, SHORT = 0, 1, 2, 3, 4, 5, 6, 8
+DONE, SIZE, COLUMN, TERM, BLANK, PART, ORDER, SHORT, CLASS = 0, 1, 2, 3, 4, 5, 6, 8, 12
 
 # ---- the kinds of terms (document 01, "Terms and facts" and "Run also")
 
@@ -71,11 +72,40 @@ read("predicate 60000", b"    660000    7\n", (BLANK, 1, 0))
 read("predicate 65535", b"    665535    7\n", (BLANK, 1, 0))
 read("predicate 65536", b"    665536    7\n", (TERM, 1, 0))
 
+# ---- literals: never subject or object of sc, sp, dom or range, nor object of type (document 02, Point 2)
+
+read("subject of sc", b"40000    1    6\n", (CLASS, 1, 0))
+read("object of sc", b"    6    140000\n", (CLASS, 1, 0))
+read("subject of sp", b"40000    2    6\n", (CLASS, 1, 0))
+read("object of sp", b"    6    240000\n", (CLASS, 1, 0))
+read("subject of dom", b"40000    3    6\n", (CLASS, 1, 0))
+read("object of dom", b"    6    340000\n", (CLASS, 1, 0))
+read("subject of range", b"40000    4    6\n", (CLASS, 1, 0))
+read("object of range", b"    6    440000\n", (CLASS, 1, 0))
+read("object of type", b"    6    540000\n", (CLASS, 1, 0))
+read("subject and object of range", b"40000    440001\n", (CLASS, 1, 0))
+read("object of type, the subject being one too", b"40000    540001\n", (CLASS, 1, 0))
+read("the last literal as subject of sc", b"59999    1    6\n", (CLASS, 1, 0))
+read("the last literal as object of range", b"    6    459999\n", (CLASS, 1, 0))
+read("the last literal as object of type", b"    6    559999\n", (CLASS, 1, 0))
+read("subject of type passes", b"40000    5    6\n", (DONE, 0, 1))
+read("the last literal as subject of type", b"59999    5    6\n", (DONE, 0, 1))
+read("subject and object of a name pass", b"40000    640000\n", (DONE, 0, 1))
+read("subject and object of the last name", b"599993999959999\n", (DONE, 0, 1))
+read("the last name is no literal: of sc", b"39999    139999\n", (DONE, 0, 1))
+read("the last name is no literal: of sp", b"39999    239999\n", (DONE, 0, 1))
+read("the last name is no literal: of dom", b"39999    339999\n", (DONE, 0, 1))
+read("the last name is no literal: of range", b"39999    439999\n", (DONE, 0, 1))
+read("the last name is no literal: of type", b"39999    539999\n", (DONE, 0, 1))
+
 # ---- whole tables
 
 T = lines(b"   10   13   20", b"   11    1   12", b"   13    2   14", b"   14    3   11")
 read("the table of document 01's example", T, (DONE, 0, 4))
-read("a literal inside an sp chain (case h)", lines(b"    6    7    8", b"    7    240000", b"40000    2    9"), (DONE, 0, 3))
+read("a literal as a property (case h)", lines(b"    6    7    8", b"    7    240000", b"40000    2    9"), (CLASS, 2, 0))
+read("a literal as a property (case i)", lines(b"    6    7    8", b"    7    240000", b"40000    3    9"), (CLASS, 2, 0))
+read("literals of a type and about a name",
+     lines(b"    6    740000", b"    7    4    8", b"40000    5    8", b"40000    7    6"), (DONE, 0, 4))
 read("two equal lines (case k)", lines(b"   10    1   11", b"   10    1   11"), (ORDER, 2, 0))
 read("the empty table is a table", b"", (DONE, 0, 0))
 read("the zero line is no fact", b"    0    0    0\n", (TERM, 1, 0))
@@ -102,6 +132,9 @@ read("4 on the last line", put(5, b"60000   20   30"), (BLANK, 5, 0))
 read("5 on the first line", put(1, b"    5    1   11"), (PART, 1, 0))
 read("5 on a middle line", put(3, b"   1040000    6"), (PART, 3, 0))
 read("5 on the last line", put(5, b"   12   20    5"), (PART, 5, 0))
+read("12 on the first line", put(1, b"40000    1   11"), (CLASS, 1, 0))
+read("12 on a middle line", put(3, b"   10    240000"), (CLASS, 3, 0))
+read("12 on the last line", put(5, b"   12    540000"), (CLASS, 5, 0))
 read("6 on the second line, the first that can earn it", put(2, b"   10    1   11"), (ORDER, 2, 0))
 read("6 on a middle line", put(3, b"   10    1    6"), (ORDER, 3, 0))
 read("6 on the last line", put(5, b"   11    5   12"), (ORDER, 5, 0))
@@ -117,7 +150,7 @@ read("a smaller object", lines(b"   10    1   12", b"   10    1   11"), (ORDER, 
 read("9 comes before 10, though '9' does not come before '1'", lines(b"    9    1   11", b"   10    1   11"), (DONE, 0, 2))
 read("only the line before counts: a fall, and then a rise", lines(b"   11    1   12", b"   10    1   11", b"   12    1   13"), (ORDER, 2, 0))
 
-# ---- what comes first: size, then line by line 2, 3, 4, 5, 6, each over the whole width, then 8
+# ---- what comes first: size, then line by line 2, 3, 4, 5, 12, 6, each over the whole width, then 8
 
 read("2 before 3 over the whole width: 0 first, a bad third field", b"    0    1  011\n", (COLUMN, 1, 0))
 read("2 before 3: 0 first, a bad line end", b"    0    1   11 ", (COLUMN, 1, 0))
@@ -134,10 +167,37 @@ read("a 3 on line 1 before a 2 on line 2", lines(b"    0    1   11", b"   10    
 read("a 4 on line 1 before a 2 on line 2", lines(b"60000    1   11", b"   10    1  011"), (BLANK, 1, 0))
 read("a 5 on line 1 before a 3 on line 2", lines(b"    5    1   11", b"   10    1    0"), (PART, 1, 0))
 read("a 6 on line 2 before a 2 on line 3", lines(b"   10    1   11", b"   10    1   11", b"   10    1  012"), (ORDER, 2, 0))
+read("2 before 12", b"40000    1   11 ", (COLUMN, 1, 0))
+read("3 before 12 over the whole width: a literal first, 0 last", b"40000    1    0\n", (TERM, 1, 0))
+read("3 before 12: 65536 first, a literal last", b"65536    540000\n", (TERM, 1, 0))
+read("4 before 12: a literal first, a blank last", b"40000    160000\n", (BLANK, 1, 0))
+read("4 before 12: a blank first, a literal last", b"60000    540000\n", (BLANK, 1, 0))
+read("5 before 12 over the whole width: a literal first, vocabulary last", b"40000    1    5\n", (PART, 1, 0))
+read("5 before 12: vocabulary first, a literal last", b"    1    540000\n", (PART, 1, 0))
+read("5 before 12, by range", b"40000    4    1\n", (PART, 1, 0))
+read("5 alone: between literals a literal", b"400004000040000\n", (PART, 1, 0))
+read("12 before 6: below the line before", lines(b"   10    1   11", b"    9    140000"), (CLASS, 2, 0))
+read("12 before 6: a predicate below the one before", lines(b"    6    759999", b"    6    540000"), (CLASS, 2, 0))
+read("12 before 6: the same of a literal subject", lines(b"40000    7    6", b"40000    2    6"), (CLASS, 2, 0))
+read("12 on the first of two equal lines", lines(b"40000    1    6", b"40000    1    6"), (CLASS, 1, 0))
+read("5 before 12 before 6: all three on a line", lines(b"50000    7    6", b"40000    1    5"), (PART, 2, 0))
+read("a 12 on line 1 before a 2 on line 2", lines(b"    6    140000", b"   10    1  011"), (CLASS, 1, 0))
+read("a 12 on line 1 before a 3 on line 2", lines(b"    6    140000", b"   10    1    0"), (CLASS, 1, 0))
+read("a 12 on line 1 before a 4 on line 2", lines(b"    6    340000", b"   10    160000"), (CLASS, 1, 0))
+read("a 12 on line 1 before a 5 on line 2", lines(b"    6    540000", b"   10    1    5"), (CLASS, 1, 0))
+read("a 12 on line 1 before a 6 on line 2", lines(b"    6    440000", b"    6    1    7"), (CLASS, 1, 0))
+read("a 2 on line 1 before a 12 on line 2", lines(b"    6    1   07", b"    6    140000"), (COLUMN, 1, 0))
+read("a 3 on line 1 before a 12 on line 2", lines(b"    6    1    0", b"    6    140000"), (TERM, 1, 0))
+read("a 4 on line 1 before a 12 on line 2", lines(b"    6    160000", b"    7    440000"), (BLANK, 1, 0))
+read("a 5 on line 1 before a 12 on line 2", lines(b"    6    1    5", b"    6    140000"), (PART, 1, 0))
+read("a 6 on line 2 before a 12 on line 3", lines(b"   10    1   11", b"   10    1   11", b"40000    1    6"), (ORDER, 2, 0))
+read("1 before 12: 17 bytes that begin with a barred literal", b"40000    1    6\n ", (SIZE, 0, 0))
 read("1 before all: 17 bytes that begin with a bad line", b"    0    1  011\n ", (SIZE, 0, 0))
 read("1 before 8: 17 bytes, no room", b"   10    1   11\n ", (SIZE, 0, 0), room=0)
 read("2 before 8", b"   10    1  011\n", (COLUMN, 1, 0), room=0)
 read("3 before 8", b"   10    1    0\n", (TERM, 1, 0), room=0)
+read("12 before 8", b"   10    140000\n", (CLASS, 1, 0), room=0)
+read("12 on the last line before 8", lines(b"   10    1   11", b"40000    3   11"), (CLASS, 2, 0), room=5)
 read("6 on the last line before 8", lines(b"   10    1   11", b"   10    1   11"), (ORDER, 2, 0), room=0)
 
 # ---- fields: spaces, then digits, no leading zero (document 01, "Table layout")
@@ -197,7 +257,7 @@ read("T and a number more than enough", T, (DONE, 0, 4), room=13)
 read("one fact in two numbers", b"   10    1   11\n", (SHORT, 0, 0), room=2)
 read("the empty table needs no room", b"", (DONE, 0, 0), room=0)
 
-# ---- rows to write: size, then fact by fact 3, 4, 5, 6, then 8; place is the fact's number
+# ---- rows to write: size, then fact by fact 3, 4, 5, 12, 6, then 8; place is the fact's number
 
 ROW_T = [10, 13, 20, 11, 1, 12, 13, 2, 14, 14, 3, 11]
 write("T", ROW_T, (DONE, 0, 4), T)
@@ -231,6 +291,17 @@ write("4 on the last fact", [10, 1, 11, 10, 1, 12, 11, 1, 60000], (BLANK, 3, 0))
 write("5 on the first fact", [5, 1, 11, 10, 1, 12, 11, 1, 12], (PART, 1, 0))
 write("5 on a middle fact", [10, 1, 11, 10, 59999, 12, 11, 1, 12], (PART, 2, 0))
 write("5 on the last fact", [10, 1, 11, 10, 1, 12, 11, 1, 1], (PART, 3, 0))
+write("12 on the first fact", [40000, 1, 11, 10, 1, 12, 11, 1, 12], (CLASS, 1, 0))
+write("12 on a middle fact", [10, 1, 11, 10, 5, 59999, 11, 1, 12], (CLASS, 2, 0))
+write("12 on the last fact", [10, 1, 11, 10, 1, 12, 11, 1, 40000], (CLASS, 3, 0))
+for predicate in (1, 2, 3, 4):
+    write("12 for the subject", [59999, predicate, 6], (CLASS, 1, 0))
+    write("12 for the object", [6, predicate, 59999], (CLASS, 1, 0))
+write("12 for the object of type", [6, 5, 40000], (CLASS, 1, 0))
+write("a literal of a type", [40000, 5, 6], (DONE, 0, 1), lines(b"40000    5    6"))
+write("literals about a name", [40000, 6, 40001], (DONE, 0, 1), lines(b"40000    640001"))
+write("the last name as class and property", [39999, 1, 39999, 39999, 2, 39999, 39999, 5, 39999], (DONE, 0, 3),
+      lines(b"39999    139999", b"39999    239999", b"39999    539999"))
 write("6 on the second fact: two equal facts", [10, 1, 11, 10, 1, 11, 11, 1, 12], (ORDER, 2, 0))
 write("6 on the last fact", [10, 1, 11, 10, 2, 12, 10, 2, 11], (ORDER, 3, 0))
 write("3 before 4 before 5: all three in a fact", [1, 60000, 0], (TERM, 1, 0))
@@ -238,6 +309,19 @@ write("4 before 5", [1, 7, 60000], (BLANK, 1, 0))
 write("3 before 6", [10, 1, 11, 9, 1, 0], (TERM, 2, 0))
 write("4 before 6", [10, 1, 11, 9, 1, 60000], (BLANK, 2, 0))
 write("5 before 6", [10, 1, 11, 9, 1, 5], (PART, 2, 0))
+write("3 before 12", [40000, 1, 65536], (TERM, 1, 0))
+write("3 before 12: 32 bits that are a literal in 16", [105536, 1, 6], (TERM, 1, 0))
+write("4 before 12", [40000, 1, 60000], (BLANK, 1, 0))
+write("5 before 12", [40000, 1, 5], (PART, 1, 0))
+write("5 before 12: vocabulary first", [2, 4, 40000], (PART, 1, 0))
+write("12 before 6", [10, 1, 11, 9, 1, 40000], (CLASS, 2, 0))
+write("12 before 6: subjects equal", [40000, 5, 6, 40000, 3, 6], (CLASS, 2, 0))
+write("a 12 on fact 1 before a 3 on fact 2", [6, 1, 40000, 10, 1, 0], (CLASS, 1, 0))
+write("a 12 on fact 1 before a 5 on fact 2", [6, 1, 40000, 10, 1, 5], (CLASS, 1, 0))
+write("a 5 on fact 1 before a 12 on fact 2", [6, 1, 5, 10, 1, 40000], (PART, 1, 0))
+write("a 6 on fact 2 before a 12 on fact 3", [10, 1, 11, 10, 1, 11, 40000, 1, 6], (ORDER, 2, 0))
+write("1 before 12", [40000, 1, 6, 7], (SIZE, 0, 0))
+write("12 before 8", [40000, 1, 6], (CLASS, 1, 0), room=0)
 write("a 5 on fact 1 before a 3 on fact 2", [5, 1, 11, 10, 1, 0], (PART, 1, 0))
 write("1 before 3", [0, 0, 0, 0], (SIZE, 0, 0))
 write("3 before 8", [10, 1, 0], (TERM, 1, 0), room=0)
