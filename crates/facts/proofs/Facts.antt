@@ -114,7 +114,7 @@ pub name-free : (n : ℕ) → isName (kindOf n) ≡ true → (namedSubject n ≡
 unfolding namedObject kindOf
 name-free n e =
     let x = not-word sc refl in let y = not-word sp refl in let z = not-word dom refl in let u = not-word range refl in
-    (rw (x, y, z, u), rw (x, y, z, u, not-word type refl))
+    (simp (x, y, z, u), simp (x, y, z, u, not-word type refl))
   where
     not-word : (v : ℕ) → isName (kindOf v) ≡ false → eqb n v ≡ false
     not-word v f = by-cases (eqb n v) (λ g. absurd (true≢false (sym e ∙ ap (λ (x : ℕ). isName (kindOf x)) (eqb-true n v g) ∙ f))) (λ g. g)
