@@ -65,7 +65,7 @@ linesAnswer facts t x n = after (scan (formVerdict x) 0 n) (after (scan (stepVer
 unfoldable pub derivationAnswer : List Fact → Fact → List ℕ → Answer
 derivationAnswer facts t x = cond (ltb 0 (length x) && sized 31 63457 (length x)) (linesAnswer facts t x (length x / 31)) (Refused Form 0)
 
--- 3, 4, 5 with place 0 for the fact put
+-- 3, 4, 5, 12 with place 0 for the fact put
 unfoldable pub factAnswer : Verdict → Answer → Answer
 factAnswer Sound a = a
 factAnswer (Faulty r) a = Refused r 0

@@ -10,7 +10,6 @@ use lib.ListN.{length, drop, replicate, length-replicate}
 use lib.Dec.{T}
 use Rattle.columns.specs.Lines.{line, Below, width, numbersAt, laidOut, flat}
 use Rattle.columns.proofs.Lines.{line-read, line-written, numbers-length}
-use Rattle.facts.specs.declared.Refusal.{Refusal}
 use Rattle.facts.specs.declared.Refusal.the-variants.{Form}
 use Rattle.facts.specs.declared.Answer.{Answer}
 use Rattle.facts.specs.declared.Answer.the-variants.{Done, Yes, No, Long, Accepted, Refused}

@@ -5,7 +5,7 @@ use mathlib.Core.Path.{_≡_, refl}
 use mathlib.Core.Bool.{Bool, _&&_}
 use mathlib.Core.Option.{Option, none, some}
 use mathlib.Core.List.{List, [], _∷_}
-use Prim.Native.Nat.{ℕ, _+_, _-_, _*_, _/_, _%_, _≤_, _<_}
+use Prim.Native.Nat.{ℕ, _+_, _-_, _*_, _/_, _%_, _≤_}
 use native.Mathlib.Omega.{arith}
 use lib.ListN.{length, length-map}
 use lib.Dec.{eqb, leb, ltb}
@@ -20,7 +20,7 @@ use Rattle.facts.specs.declared.Verdict.the-variants.{Sound, Faulty}
 use Rattle.facts.specs.declared.Answer.{Answer}
 use Rattle.facts.specs.declared.Answer.the-variants.{Refused}
 use Rattle.facts.specs.Facts.{faultOf}
-use Rattle.facts.specs.Answers.{codeOf, numberOf}
+use Rattle.facts.specs.Answers.{codeOf}
 use Rattle.facts.proofs.Terms.{by-cases}
 use Rattle.facts.proofs.Codes.{number-within}
 use Rattle.table.specs.declared.Scan.{Scan}

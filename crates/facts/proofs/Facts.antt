@@ -12,7 +12,6 @@ use Rattle.facts.specs.declared.Kind.{Kind}
 use Rattle.facts.specs.declared.Kind.the-variants.{NoTerm, Vocabulary, Name, Literal, BlankNode, Beyond}
 use Rattle.facts.specs.declared.Fact.{Fact}
 use Rattle.facts.specs.declared.Refusal.{Refusal}
-use Rattle.facts.specs.declared.Refusal.the-variants.{Order}
 use Rattle.facts.specs.declared.Verdict.{Verdict}
 use Rattle.facts.specs.declared.Verdict.the-variants.{Sound, Faulty}
 use Rattle.facts.specs.Terms.{kindOf, isNoTerm, isVocabulary, isName, isLiteral, isBlank, sc, sp, dom, range, type}
@@ -118,6 +117,10 @@ name-free n e =
   where
     not-word : (v : ℕ) → isName (kindOf v) ≡ false → eqb n v ≡ false
     not-word v f = by-cases (eqb n v) (λ g. absurd (true≢false (sym e ∙ ap (λ (x : ℕ). isName (kindOf x)) (eqb-true n v g) ∙ f))) (λ g. g)
+
+-- the subject and the object of a data fact may stand wherever a literal may
+pub data-nodes : (f : Fact) → T (wellFormed f) → isName (kindOf (f .predicate)) ≡ true → T (isNode false (f .subject)) × T (isNode false (f .object))
+data-nodes f w n = let x = name-free (f .predicate) n in let p = parts f w in (rw (x .0) at (p .0), rw (x .1) at (p .2))
 
 -- every other predicate asks for a name as object
 pub word-object : (n : ℕ) → T (isPredicate n) → isName (kindOf n) ≡ false → namedObject n ≡ true

@@ -13,7 +13,7 @@ use borrow.Author.Tests.{le-leb, lt-leb}
 use Rattle.facts.specs.declared.Fact.{Fact}
 use Rattle.facts.proofs.Terms.{by-cases}
 use Rattle.table.specs.Tables.{rowFact}
-use Rattle.rules.specs.Paths.{named, next, link, property, chain, onlyTable, goesOn}
+use Rattle.rules.specs.Paths.{next, link, property, chain, onlyTable, goesOn}
 use Rattle.rules.proofs.Paths.{next-says, only-says}
 use Rattle.question.specs.Row.{subjectAt, Cut, Rising, Ends, mayComeBefore}
 use Rattle.question.specs.State.{slotOf, spare, PartOf, part, none, shut, passed}

@@ -39,7 +39,7 @@ use Rattle.derivation.specs.Bytes.{derivationBytes}
 abbrev pub needed : ℕ → ℕ
 needed limit = 31 * (2 * limit - 1)
 
--- what a question to an accepted table earns, with so many bytes of output: 3, 4, 5, then 7, then 8
+-- what a question to an accepted table earns, with so many bytes of output: 3, 4, 5, 12, then 7, then 8
 unfoldable pub asked : Fact → ℕ → ℕ → Verdict
 unfolding orElse questionFault
 asked t limit size = orElse (questionFault t) (cond (leb limit 1024) (cond (leb (needed limit) size) Sound (Faulty Short)) (Faulty Allowance))

@@ -13,7 +13,7 @@ use Rattle.facts.specs.Terms.{kindOf, range, type}
 use Rattle.facts.specs.Facts.{fact, namedSubject, namedObject, isNode, wellFormed}
 use Rattle.facts.specs.Gaps.{isGap, Fills, Askable, termOr}
 use Rattle.facts.proofs.Terms.{by-cases, T-of, of-T}
-use Rattle.facts.proofs.Facts.{fact-eq, parts, whole, name-stands, object-name, name-free, word-object}
+use Rattle.facts.proofs.Facts.{fact-eq, parts, whole, name-stands, object-name, name-free, data-nodes, word-object}
 use Rattle.facts.proofs.Gaps.{predicate-whole, askable-subject, askable-predicate, askable-object, fills-predicate, fills-only}
 use Rattle.rules.specs.Graph.{_∈_, nodes}
 use Rattle.rules.specs.Derivations.{Relation, Derives, Least}
@@ -119,10 +119,6 @@ link-name : (b : Fact) → T (wellFormed b) → named (link b) ≡ true
 link-name b w =
     by-cases (named (b .predicate)) (λ n. rw (link-data b n) n)
     (λ n. rw (link-vocabulary b n) (object-name b w (word-object (b .predicate) (parts b w .1) n)))
-
--- the subject and the object of a data fact may stand wherever a literal may
-data-nodes : (a : Fact) → T (wellFormed a) → named (a .predicate) ≡ true → T (isNode false (a .subject)) × T (isNode false (a .object))
-data-nodes a w n = let f = name-free (a .predicate) n in let p = parts a w in (rw (f .0) at (p .0), rw (f .1) at (p .2))
 
 module _ (w : ℕ) (t a b : Fact) (ask : Askable t) (begin : T (startFor w t a)) (end : T (goalFor t b)) where
   abbrev whole-fact : Fact

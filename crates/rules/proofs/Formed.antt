@@ -9,9 +9,9 @@ use Prim.Native.Nat.{ℕ}
 use lib.Dec.{T}
 use Rattle.facts.specs.declared.Fact.{Fact}
 use Rattle.facts.specs.Terms.{kindOf, isName, sc, sp, dom, range, type}
-use Rattle.facts.specs.Facts.{fact, namedSubject, namedObject, isNode, isPredicate, wellFormed}
+use Rattle.facts.specs.Facts.{fact, namedObject, isNode, isPredicate, wellFormed}
 use Rattle.facts.proofs.Terms.{T-of}
-use Rattle.facts.proofs.Facts.{parts, whole, subject-name, object-name, name-free}
+use Rattle.facts.proofs.Facts.{parts, whole, subject-name, object-name, name-free, data-nodes}
 use Rattle.rules.specs.Graph.{_∈_}
 use Rattle.rules.specs.Rules.{Gives, sp-sp, sp-data, sc-sc, sc-type, dom-data, range-data, Rule}
 use Rattle.rules.specs.Derivations.{Line, Justified, by-table, by-rule, Justify, Derives, Holds}
@@ -22,10 +22,6 @@ use Rattle.rules.proofs.Derivations.{LinesIn, factOn-M}
 pub sp-names : (A B : ℕ) → T (wellFormed (fact A sp B)) → (isName (kindOf A) ≡ true) × (isName (kindOf B) ≡ true)
 unfolding namedObject
 sp-names A B w = (subject-name (fact A sp B) w refl, object-name (fact A sp B) w refl)
-
--- what stands beside a name is a node
-beside : (X A Y : ℕ) → isName (kindOf A) ≡ true → T (wellFormed (fact X A Y)) → T (isNode false X) × T (isNode false Y)
-beside X A Y n w = let f = name-free A n in let p = parts (fact X A Y) w in (rw (f .0) at (p .0), rw (f .1) at (p .2))
 
 -- a fact that gives a type
 typing : (X B : ℕ) → T (isNode false X) → T (isNode true B) → T (wellFormed (fact X type B))
@@ -38,13 +34,13 @@ unfolding namedObject isPredicate
 gives-formed (sp-sp {A} {B} {C}) u v = let p = parts (fact A sp B) u in whole (fact A sp C) (p .0) (p .1) (parts (fact B sp C) v .2)
 gives-formed (sp-data {A} {B} {X} {Y}) u v =
     let n = sp-names A B u in
-    let z = beside X A Y (n .0) v in
+    let z = data-nodes (fact X A Y) v (n .0) in
     let f = name-free B (n .1) in
     whole (fact X B Y) (rw (f .0) (z .0)) (or-l (isName (kindOf B)) _ (T-of _ (n .1))) (rw (f .1) (z .1))
 gives-formed (sc-sc {A} {B} {C}) u v = let p = parts (fact A sc B) u in whole (fact A sc C) (p .0) (p .1) (parts (fact B sc C) v .2)
 gives-formed (sc-type {A} {B} {X}) u v = typing X B (parts (fact X type A) v .0) (parts (fact A sc B) u .2)
-gives-formed (dom-data {A} {B} {X} {Y}) u v = typing X B (beside X A Y (subject-name (fact A dom B) u refl) v .0) (parts (fact A dom B) u .2)
-gives-formed (range-data {A} {B} {X} {Y}) u v = typing Y B (beside X A Y (subject-name (fact A range B) u refl) v .1) (parts (fact A range B) u .2)
+gives-formed (dom-data {A} {B} {X} {Y}) u v = typing X B (data-nodes (fact X A Y) v (subject-name (fact A dom B) u refl) .0) (parts (fact A dom B) u .2)
+gives-formed (range-data {A} {B} {X} {Y}) u v = typing Y B (data-nodes (fact X A Y) v (subject-name (fact A range B) u refl) .1) (parts (fact A range B) u .2)
 
 pub gives-rule : {n : ℕ} {p q r : Fact} → Gives n p q r → T (wellFormed p) → T (wellFormed q) → Rule n p q r
 gives-rule g u v = record { gives = g; first = u; second = v; result = gives-formed g u v }

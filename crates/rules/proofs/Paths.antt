@@ -7,8 +7,7 @@ use mathlib.Core.List.{List, [], _∷_, List·Memᴰ·head, List·Memᴰ·tail, 
 use Prim.Native.Nat.{ℕ, zero, suc, _≤_}
 use native.Mathlib.Omega.{arith}
 use lib.ListN.{length}
-use lib.Dec.{T, eqb, ltb, leb, eqb-refl}
-use borrow.Author.Tests.{ne-eqb, le-ltb}
+use lib.Dec.{T, eqb, eqb-refl}
 use mir.Facts.{and-yes, yes-and, or-yes, eqb-yes, yes-eqb}
 use Rattle.facts.specs.declared.Fact.{Fact}
 use Rattle.facts.specs.Terms.{kindOf, isVocabulary, sc, sp, dom, range, type}

@@ -22,7 +22,7 @@ pub fn needed_for(limit: u32) -> usize
     LINE_BYTES * (2 * (limit as usize) - 1)
 }
 
-// The first of refusals 3, 4, 5, 7 and 8 that a question to an accepted table earns, with so many bytes of output.
+// The first of refusals 3, 4, 5, 12, 7 and 8 that a question to an accepted table earns, with so many bytes of output.
 pub fn verdict(t: Fact, limit: u32, size: usize) -> Verdict
     ensures { λ r. ⌜ r ≡ asked t limit size ⌝ }
 {

@@ -180,7 +180,7 @@ none-earned e rs = (none-says e rs, none-is e rs)
 pub first-earned : (e : Refusal → Bool) (rs : List Refusal) (r : Refusal) → firstEarned e rs ≡ Faulty r ↔ First e rs r
 first-earned e rs r = (first-says e rs r, λ f. rw (f .place) (first-is e r (f .before) (f .behind) (f .not-before) (f .here)))
 
--- a line is refused by the first of 2 to 6 that it earns, in that order
+-- a line is refused by the first of 2, 3, 4, 5, 12, 6 that it earns, in that order
 pub line-refused : (b : List ℕ) (i : ℕ) (r : Refusal) → lineVerdict b i ≡ Faulty r ↔ First (earns (laidOut 3 b (16 * i)) (lineFact b) i) tried r
 unfolding lineVerdict
 line-refused b i r = first-earned _ tried r
@@ -256,7 +256,7 @@ refused-by false judge n r place = (
   ⊎-elim (λ (h : (false ≡ false) × (r ≡ Size) × (place ≡ 0)). rw (h .1, h .2)) (λ (h : (false ≡ true) × Stopped judge n r place). let z : _≡_ {A = ℕ} 0 1 = cc (h .0) in absurd (omega arith)),
 )
 
--- a table is refused for its size, place 0, or else at the first line that earns one of 2 to 6
+-- a table is refused for its size, place 0, or else at the first line that earns one of 2, 3, 4, 5, 12, 6
 pub tableOf-refused : (b : List ℕ) (r : Refusal) (place : ℕ) → tableOf b ≡ refused r place ↔ Refusable (sized 16 16384 (length b)) (lineVerdict b) (length b / 16) r place
 unfolding tableOf tableScan
 tableOf-refused b r place =
@@ -264,7 +264,7 @@ tableOf-refused b r place =
     let s = refused-by (sized 16 16384 (length b)) (lineVerdict b) (length b / 16) r place in
     (λ e. s .0 (m .0 e), λ h. m .1 (s .1 h))
 
--- the same of a row to write, with 3 to 6
+-- the same of a row to write, without 2
 pub tableOfRow-refused : (row : List ℕ) (r : Refusal) (place : ℕ) → tableOfRow row ≡ refused r place ↔ Refusable (sized 3 3072 (length row)) (rowVerdict row) (length row / 3) r place
 unfolding tableOfRow rowScan
 tableOfRow-refused row r place =

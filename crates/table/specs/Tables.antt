@@ -61,7 +61,7 @@ unfoldable pub meant : (ℕ → Fact) → Scan → Table
 meant at (Passes n) = accepted (itemsFrom at 0 n)
 meant at (Stops r place) = refused r place
 
--- the first of 2 to 6 that line i of the bytes earns
+-- the first of 2, 3, 4, 5, 12, 6 that line i of the bytes earns
 unfoldable pub lineVerdict : List ℕ → ℕ → Verdict
 lineVerdict b i = firstEarned (earns (laidOut 3 b (16 * i)) (lineFact b) i) tried
 
@@ -73,7 +73,7 @@ tableScan b = cond (sized 16 16384 (length b)) (scan (lineVerdict b) 0 (length b
 unfoldable pub tableOf : List ℕ → Table
 tableOf b = meant (lineFact b) (tableScan b)
 
--- the first of 3 to 6 that the fact at i of a row earns
+-- the first of 3, 4, 5, 12, 6 that the fact at i of a row earns
 unfoldable pub rowVerdict : List ℕ → ℕ → Verdict
 rowVerdict row i = firstEarned (earns true (rowFact row) i) tried
 

@@ -20,7 +20,7 @@ pub enum Scan {
     Stops(Refusal, u32),
 }
 
-// What a line comes to: the first of 2 to 6 that it earns, and its fact.
+// What a line comes to: the first of 2, 3, 4, 5, 12, 6 that it earns, and its fact.
 pub struct Judged {
     pub verdict: Verdict,
     pub fact: Fact,
