@@ -2,7 +2,7 @@
 -- Assumes nothing.
 use mathlib.Core.Path.{_≡_, sym, _∙_}
 use mathlib.Core.Logic.{inl, inr, ⊎-elim, ⊎-map}
-use mathlib.Core.Bool.{Bool, true, false, not, _&&_, _||_, true≢false}
+use mathlib.Core.Bool.{Bool, true, false, not, _&&_, true≢false}
 use mathlib.Core.List.{List}
 use Prim.Native.Nat.{ℕ, suc}
 use lib.Dec.{T}
@@ -29,11 +29,7 @@ use Rattle.demands.proofs.Demands.{demand-1}
 stands : (named : Bool) (n : ℕ) → NameOrLiteral n → (isLiteral (kindOf n) ≡ true → named ≡ false) → T (isNode named n)
 unfolding isNode
 stands named n (inl e) h = name-stands named n e
-stands named n (inr e) h = rw (e, h e) (either (isName (kindOf n)))
-  where
-    either : (b : Bool) → T (b || true)
-    either true = tt
-    either false = tt
+stands named n (inr e) h = rw (e, h e) (or-r (isName (kindOf n)) true tt)
 
 stands-says : (named : Bool) (n : ℕ) → T (isNode named n) → NameOrLiteral n
 unfolding isNode

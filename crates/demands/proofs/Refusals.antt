@@ -1,4 +1,4 @@
--- Each call refuses exactly what document 01 refuses, with its number and place.
+-- Each call refuses exactly what the papers refuse, with its number and place.
 -- Assumes nothing.
 use mathlib.Core.Path.{_≡_, refl, sym, _∙_}
 use mathlib.Core.Logic.{_↔_, _⊎_, inl, inr, ⊎-elim}

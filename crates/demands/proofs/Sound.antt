@@ -1,4 +1,4 @@
--- Input is sound exactly where document 01 lays down no refusal for it; and which answers name no term.
+-- Input is sound exactly where the papers lay down no refusal for it; and which answers name no term.
 -- Assumes nothing.
 use mathlib.Core.Path.{_≡_, refl, sym, ap, _∙_}
 use mathlib.Core.Logic.{_↔_, _⊎_, inl, inr, ⊎-elim}

@@ -1,4 +1,4 @@
--- Document 01's numbers tell the answers apart: an answer is read back from its number, place and count and the term it names.
+-- The papers' numbers tell the answers apart: an answer is read back from its number, place and count and the term it names.
 -- Assumes nothing.
 use mathlib.Core.Path.{_≡_, refl, sym, ap, _∙_}
 use mathlib.Core.Bool.{cond}

@@ -12,11 +12,12 @@ use Rattle.facts.specs.declared.Kind.{Kind}
 use Rattle.facts.specs.declared.Kind.the-variants.{NoTerm, Vocabulary, Name, Literal, BlankNode, Beyond}
 use Rattle.facts.specs.declared.Fact.{Fact}
 use Rattle.facts.specs.declared.Refusal.{Refusal}
+use Rattle.facts.specs.declared.Refusal.the-variants.{Order}
 use Rattle.facts.specs.declared.Verdict.{Verdict}
 use Rattle.facts.specs.declared.Verdict.the-variants.{Sound, Faulty}
 use Rattle.facts.specs.Terms.{kindOf, isNoTerm, isVocabulary, isName, isLiteral, isBlank, sc, sp, dom, range, type}
 use Rattle.facts.specs.Facts.{namedSubject, namedObject, isNode, isPredicate, wellFormed, hasNoTerm, hasBlank, misplaced, textAsClass, faultOf, orElse, orderOf, verdictOf, before}
-use Rattle.facts.proofs.Terms.{by-cases, of-T, neither, none-of, node-kinds, predicate-kinds, node-name, OfKind, kind-within, vocabulary-below}
+use Rattle.facts.proofs.Terms.{by-cases, of-T, and-false, neither, none-of, node-kinds, predicate-kinds, node-name, OfKind, kind-within, vocabulary-below}
 
 -- facts with the same three terms are the same
 pub fact-eq : (a b : Fact) → a .subject ≡ b .subject → a .predicate ≡ b .predicate → a .object ≡ b .object → a ≡ b
@@ -136,10 +137,6 @@ word-object n p e = ⊎-elim (λ h. absurd (true≢false (sym (of-T (isName (kin
     go (suc (suc (suc (suc (suc zero))))) l t = refl
     go (suc (suc (suc (suc (suc (suc k)))))) l t = absurd (omega arith)
 
-and-none : (b : Bool) → b && false ≡ false
-and-none true = refl
-and-none false = refl
-
 and-all : (b : Bool) → b && true ≡ b
 and-all true = refl
 and-all false = refl
@@ -155,7 +152,7 @@ barred false b true d e h = refl
 barred false b false d e h = refl
 barred true false true d e h = refl
 barred true false false d e h = refl
-barred true true c false e h = rw (and-none c)
+barred true true c false e h = rw (and-false c false refl)
 barred true true c true e h = absurd (true≢false h)
 
 formed-is : (f : Fact) → wellFormed f ≡ isNode (namedSubject (f .predicate)) (f .subject) && isPredicate (f .predicate) && isNode (namedObject (f .predicate)) (f .object)
@@ -177,7 +174,7 @@ unfolding isPredicate namedSubject kindOf
 free-subject p =
     by-cases (isName (kindOf p)) (λ e. rw (e, name-free p e .0))
     (λ e. by-cases (isVocabulary (kindOf p)) (λ h. go p (vocabulary-below p (rw h tt)))
-    (λ h. by-cases (eqb p type) (λ g. absurd (true≢false (ap (λ (x : ℕ). isVocabulary (kindOf x)) (sym (eqb-true p type g)) ∙ h))) (λ g. rw (e, h, g) (and-none (not (namedSubject p))))))
+    (λ h. by-cases (eqb p type) (λ g. absurd (true≢false (ap (λ (x : ℕ). isVocabulary (kindOf x)) (sym (eqb-true p type g)) ∙ h))) (λ g. rw (e, h, g) (and-false (not (namedSubject p)) false refl))))
   where
     go : (n : ℕ) → n < 6 → not (namedSubject n) && isPredicate n ≡ isName (kindOf n) || eqb n type
     go zero l = refl
@@ -193,7 +190,7 @@ free-object : (p : ℕ) → isPredicate p && not (namedObject p) ≡ isName (kin
 unfolding isPredicate
 free-object p =
     by-cases (isName (kindOf p)) (λ e. rw (e, name-free p e .1))
-    (λ e. by-cases (isPredicate p) (λ q. rw (word-object p (rw q tt) e) (and-none (isPredicate p) ∙ sym e)) (λ q. rw q (sym e)))
+    (λ e. by-cases (isPredicate p) (λ q. rw (word-object p (rw q tt) e) (and-false (isPredicate p) false refl ∙ sym e)) (λ q. rw q (sym e)))
 
 -- being well-formed, by what subject and object are
 module _ (f : Fact) where
@@ -268,10 +265,19 @@ module _ (f : Fact) where
   unfolding verdictOf
   verdict-formed ascends e = rw (formed-sound (rw e tt))
 
-  -- one that is not well-formed and earns none of 3, 4, 5 earns 12
-  pub left-class : wellFormed f ≡ false → hasNoTerm f ≡ false → hasBlank f ≡ false → misplaced f ≡ false → textAsClass f ≡ true
-  unfolding faultOf
-  left-class w a b c = by-cases (textAsClass f) (λ d. d) (λ d. absurd (rw w at (sound-formed (rw (a, b, c, d)))))
+  -- and nothing where it ascends
+  pub verdict-sound : (ascends : Bool) → wellFormed f && ascends ≡ true → verdictOf ascends f ≡ Sound
+  unfolding orderOf
+  verdict-sound ascends e = let x = and-yes (wellFormed f) ascends (rw e tt) in verdict-formed ascends (of-T (wellFormed f) (x .0)) ∙ rw (of-T ascends (x .1))
+
+  -- one that does not pass so, and earns none of 3, 4, 5, 12, does not ascend
+  pub left-order : (ascends : Bool) → wellFormed f && ascends ≡ false → hasNoTerm f ≡ false → hasBlank f ≡ false → misplaced f ≡ false → textAsClass f ≡ false
+      → verdictOf ascends f ≡ Faulty Order
+  unfolding faultOf orderOf
+  left-order ascends e a b c d =
+      let w : wellFormed f ≡ true = of-T (wellFormed f) (sound-formed (rw (a, b, c, d))) in
+      let n : ascends ≡ false = rw w at e in
+      verdict-formed ascends w ∙ rw n
 
 -- a fact by itself ascends
 pub verdict-alone : (f : Fact) → verdictOf true f ≡ faultOf f
@@ -286,12 +292,12 @@ verdict-alone f = go (faultOf f)
 below : (a n b : ℕ) (t : Bool) → leb a n && ltb n b ≡ t → T t → n < b
 below a n b t e p = ltb-yes (and-yes (leb a n) (ltb n b) (rw e p) .1)
 
--- a node that must be a name is a node, and fits 16 bits
+-- a node fits 16 bits
 node-within : (named : Bool) (n : ℕ) → T (isNode named n) → n ≤ 65535
 unfolding isNode
 node-within named n t =
     let x = node-says named n t in
-    let y = below 6 n 60000 _ (node-range n) (node-is false n (x .0) (x .1) (x .2) (and-none (isLiteral (kindOf n)))) in
+    let y = below 6 n 60000 _ (node-range n) (node-is false n (x .0) (x .1) (x .2) (and-false (isLiteral (kindOf n)) false refl)) in
     omega arith
 
 -- the terms of a well-formed fact fit 16 bits

@@ -14,7 +14,7 @@ use Rattle.facts.specs.declared.Verdict.the-variants.{Sound}
 use Rattle.facts.specs.Terms.{kindOf, isNoTerm, isVocabulary, isLiteral, isBlank}
 use Rattle.facts.specs.Facts.{fact, namedSubject, namedObject, isNode, isPredicate, wellFormed, hasNoTerm, hasBlank, misplaced, textAsClass, faultOf}
 use Rattle.facts.specs.Gaps.{isGap, SameTerm, AsksSame, Fills, Askable, gapless, subject-gap, object-gap, blankRefused, questionFault, fillingOf, termOr, filledBy}
-use Rattle.facts.proofs.Terms.{by-cases, neither, none-of}
+use Rattle.facts.proofs.Terms.{by-cases, and-false, neither, none-of}
 use Rattle.facts.proofs.Facts.{fact-eq, name-stands, node-says, node-is, predicate-says, predicate-is, parts, whole, terms-within, passed}
 
 -- neither a node nor a predicate is a gap
@@ -57,10 +57,6 @@ unfolding questionFault
 tests-pass t p s o g =
     let k = predicate-says (t .predicate) p in
     rw (s .0, k .0, o .0, predicate-whole (t .predicate) p, g, s .1, o .1, k .2, s .2, o .2)
-
-and-false : (a b : Bool) → b ≡ false → a && b ≡ false
-and-false true b e = e
-and-false false b e = refl
 
 -- 6 may stand on each side of every predicate
 some-name : (named : Bool) → T (isNode named 6)

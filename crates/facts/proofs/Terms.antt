@@ -27,6 +27,10 @@ pub of-F : (b : Bool) → T (not b) → b ≡ false
 of-F true t = absurd t
 of-F false t = refl
 
+pub and-false : (a b : Bool) → b ≡ false → a && b ≡ false
+and-false true b e = e
+and-false false b e = refl
+
 -- two tests, or three, that all fail
 pub neither : (a b : Bool) → T (not (a || b)) → (a ≡ false) × (b ≡ false)
 neither false b t = (refl, of-F b t)

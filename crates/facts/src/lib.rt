@@ -1,4 +1,5 @@
-// Terms, facts and answers (document 01, "Terms and facts" and its table of numbers): types, definitions and laws.
+// Terms, facts and answers (document 01, "Terms and facts" and its table of numbers; document 02, Points 1 and 2): types, definitions and
+// laws.
 
 // The kind of a number that stands where a term belongs.
 pub enum Kind {

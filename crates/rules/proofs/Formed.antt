@@ -18,7 +18,7 @@ use Rattle.rules.specs.Derivations.{Line, Justified, by-table, by-rule, 
 use Rattle.rules.proofs.Tests.{or-l}
 use Rattle.rules.proofs.Derivations.{LinesIn, factOn-M}
 
--- the subject and the object of an sp fact are names, and so is the subject of a dom or range fact
+-- the subject and the object of an sp fact are names
 pub sp-names : (A B : ℕ) → T (wellFormed (fact A sp B)) → (isName (kindOf A) ≡ true) × (isName (kindOf B) ≡ true)
 unfolding namedObject
 sp-names A B w = (subject-name (fact A sp B) w refl, object-name (fact A sp B) w refl)

@@ -14,7 +14,7 @@ use table::PLACES;
 use table::ROW_NUMBERS;
 use table::Scan;
 ghost use mathlib.Core.Path.{_≡_};
-ghost use Prim.Native.Nat.{_*_, _<_};
+ghost use Prim.Native.Nat.{_<_};
 ghost use lib.ListN.{length};
 ghost use Rattle.facts.specs.Facts.{fact};
 ghost use Rattle.facts.specs.Answers.{codeOf};

@@ -11,7 +11,7 @@ use search_back::trace;
 use search_layers::reach;
 use terms::is_gap;
 ghost use mathlib.Core.Path.{_≡_};
-ghost use Prim.Native.Nat.{_+_, _≤_, _<_};
+ghost use Prim.Native.Nat.{_≤_, _<_};
 ghost use lib.ListN.{length};
 ghost use Rattle.question.specs.Row.{Rising, Sorted};
 ghost use Rattle.question.specs.Answer.{Given, FindsBy, Finds};
