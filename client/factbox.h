@@ -84,18 +84,20 @@ enum {
     FACTBOX_DONE = 0,       /* reading or writing is done; count: the table's facts */
     FACTBOX_SIZE = 1,       /* table not a multiple of 16 bytes, or above 16,384; row not a multiple of 3 numbers, or above 3,072 */
     FACTBOX_COLUMN = 2,     /* a field or the line end is not as laid out; place: the line */
-    FACTBOX_TERM = 3,       /* a number is 0 or above 65535; place: the line, or 0 for the triple put */
+    FACTBOX_TERM = 3,       /* a number is 0 or above 65535; place: the table's line, the row's fact, or 0 for the triple put */
     FACTBOX_BLANK = 4,      /* a number is 60000 to 65535 in a table, a row or the triple of a check, or as predicate of a question;
-                             * or a question has two gaps; place: the line, or 0 for the triple put */
-    FACTBOX_PART = 5,       /* vocabulary as subject or object, or a literal as predicate; place: the line, or 0 for the triple put */
-    FACTBOX_ORDER = 6,      /* a fact is not above the one before it; place: the line */
+                             * or a question has two gaps; place: the table's line, the row's fact, or 0 for the triple put */
+    FACTBOX_PART = 5,       /* vocabulary as subject or object, or a literal as predicate;
+                             * place: the table's line, the row's fact, or 0 for the triple put */
+    FACTBOX_ORDER = 6,      /* a fact is not above the one before it; place: the table's line or the row's fact */
     FACTBOX_ALLOWANCE = 7,  /* the allowance is above 1,024 */
     FACTBOX_SHORT = 8,      /* the lent memory is too short */
     FACTBOX_FORM = 9,       /* a derivation of 0 bytes, not a multiple of 31, or above 63,457; or, with its line as place, a badly laid out line */
-    FACTBOX_STEP = 10,      /* a line is neither a table line nor a rule's result; place: the first such line */
+    FACTBOX_STEP = 10,      /* a derivation line is neither a table line nor a rule's result (also one whose numbers may not stand so:
+                             * 3, 4, 5 and 12 are for the table, a row to write and the triple put); place: the first such line */
     FACTBOX_END = 11,       /* the last line is not the triple put; place: the last line */
     FACTBOX_CLASS = 12,     /* a literal as subject or object of subclass, subproperty, domain or range, or as object of type;
-                             * tried after 5 and before 6; place: the line, or 0 for the triple put */
+                             * tried after 5 and before 6; place: the table's line, the row's fact, or 0 for the triple put */
     FACTBOX_YES = 90,       /* the triple follows, from no more table facts than allowed; count: the fewest it follows from;
                              * filling: what fills the gap, 0 without one */
     FACTBOX_NO = 91,        /* the triple does not follow; with a gap, it follows with no filling; count: 0 */

@@ -253,6 +253,29 @@ static void class_of_check(void) {
     EXPECT(factbox_check(bytes(THROUGH_LITERAL), 48, 0, 0, 0, lines, 30) == result(FACTBOX_CLASS, 2, 0));
 }
 
+/* A derivation's line whose numbers may not stand so gets 10, marked as a table's or as given by a rule; a table's line gets
+ * 3, 4, 5 or 12. */
+static void step_of_numbers(void) {
+    static const struct {
+        const char *fact;
+        uint32_t number;
+    } LINES[] = {
+        {"   10    5   11\n", FACTBOX_DONE},  {"    0    5   12\n", FACTBOX_TERM},  {"   10    565536\n", FACTBOX_TERM},
+        {"   1099999   12\n", FACTBOX_TERM},  {"60000    5   12\n", FACTBOX_BLANK}, {"   1065535   12\n", FACTBOX_BLANK},
+        {"    5    5   12\n", FACTBOX_PART},  {"   1040000   12\n", FACTBOX_PART},  {"40000    1   12\n", FACTBOX_CLASS},
+        {"   10    540000\n", FACTBOX_CLASS},
+    };
+    for (size_t i = 0; i < sizeof LINES / sizeof *LINES; i++) {
+        char table_fact[32] = "    0    0    0", given[32] = "    5    1    1";
+        uint32_t read[3];
+        strcat(table_fact, LINES[i].fact), strcat(given, LINES[i].fact);
+        uint64_t refused = LINES[i].number ? result(LINES[i].number, 1, 0) : result(FACTBOX_DONE, 0, 1);
+        EXPECT(factbox_read(bytes(LINES[i].fact), 16, read, 3) == refused);
+        EXPECT(factbox_check(bytes(EXAMPLE_TABLE), 64, 10, 5, 12, bytes(table_fact), 31) == result(FACTBOX_STEP, 1, 0));
+        EXPECT(factbox_check(bytes(EXAMPLE_TABLE), 64, 10, 5, 12, bytes(given), 31) == result(FACTBOX_STEP, 1, 0));
+    }
+}
+
 /* A row to write and a table to read get 12 behind 3, 4 and 5 and before 6 and 8; its place is the fact or the line. */
 static void class_of_row(void) {
     uint32_t row[] = {10, 13, 40000, 40000, 5, 12, 39999, 1, 40000};
@@ -345,6 +368,7 @@ int main(void) {
     example();
     gap_example();
     class_of_check();
+    step_of_numbers();
     class_of_row();
     tie();
     limits();
