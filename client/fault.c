@@ -90,28 +90,44 @@ unsigned fact_refusal(const uint32_t *fact) {
     return factbox_number(factbox_write(fact, 3, written, sizeof written));
 }
 
-/* Why a line of digits and spaces has not its 16 bytes. Where its numbers are the cause there is no column. */
+void explain_fact(FILE *out, unsigned number, const uint32_t *fact, const char *more) {
+    const char *why;
+    for (size_t field = 0; (why = fact_fault(number, fact, &field));) fprintf(out, "  %s%s\n", why, more);
+}
+
+/* Whether a number of the fact needs more than five columns. */
+static int too_wide(const uint32_t *fact) {
+    enum { WIDEST = 99999 };
+    return fact[0] > WIDEST || fact[1] > WIDEST || fact[2] > WIDEST;
+}
+
+/* Why a line of digits and spaces has not its 16 bytes. Where it is for a number's width, or for what can't be read of a line
+ * that has its end, there is no column. */
 static const char *length_cause(const line *r, size_t *column) {
-    static char text[320];
+    static char text[448];
     uint32_t fact[3];
     size_t len = trimmed(r->text, r->len);
     const char *why = line_fields(r->text, len, 3, fact);
     int laid_out = len == COLUMNS && wrong_column(&(line){r->text, len, r->number, 1}) > COLUMNS;
     if (laid_out && len < r->len) return "spaces at the end of the line";
     if (laid_out) return "the last line has no line end";
-    if (!why && !fact_refusal(fact)) return "the numbers are not padded to five columns each";
-    if (r->ended || !why) *column = 0;
-    if (!why) return fact_fault(fact_refusal(fact), fact);
+    int wide = !why && too_wide(fact);
+    if (wide || (why && r->ended)) *column = 0;
+    if (!why) why = wide ? "a number has more than five digits" : "the numbers are not padded to five columns each";
     snprintf(text, sizeof text, "%s%s", why, r->ended ? "" : "; the file ends within the line");
     return text;
 }
 
-/* Whether `table` takes the line as it stands. */
-static int can_be_mended(const line *r) {
+/* What `table` makes of a line that it can read: which numbers of it may not stand so, and that such lines are taken. */
+static void explain_mending(FILE *out, const char *name, const line *r) {
     uint32_t fact[3];
+    unsigned refusal = 0;
     size_t mark = r->number == 1 ? mark_length(r->text, r->len) : 0, len = trimmed(r->text + mark, r->len - mark);
-    if (r->len > TEXT_MAX && !memchr(r->text, '#', TEXT_MAX)) return 0;
-    return len == 0 || (!line_fields(r->text + mark, len, 3, fact) && !fact_refusal(fact));
+    if (r->len > TEXT_MAX && !memchr(r->text, '#', TEXT_MAX)) return;
+    if (len > 0 && line_fields(r->text + mark, len, 3, fact)) return;
+    if (len > 0) refusal = fact_refusal(fact);
+    if (refusal) explain_fact(out, refusal, fact, "");
+    fprintf(out, "  %s`table` takes such lines: table -o NEW %s\n", refusal ? "with that put right, " : "", name);
 }
 
 static void show_line(FILE *out, const line *r) { fprintf(out, "  line %-5u %s\n", r->number, quoted(r->text, r->len)); }
@@ -134,7 +150,7 @@ static void explain_layout(FILE *out, const char *name, const line *r) {
     if (!why) why = r->len == COLUMNS && r->ended ? field_cause(r, column) : length_cause(r, &column);
     if (column > 0) fprintf(out, "  column %zu: %s\n", column, why);
     else fprintf(out, "  %s\n", why);
-    if (can_be_mended(r)) fprintf(out, "  `table` takes such lines: table -o NEW %s\n", name);
+    explain_mending(out, name, r);
 }
 
 /* Refusal 6: whether the two lines are the same, and where not. */
@@ -167,6 +183,6 @@ void explain_table(FILE *out, const char *name, const uint8_t *table, size_t len
     else if (number <= FACTBOX_COLUMN) explain_layout(out, name, &r);
     else {
         line_fact(&r, fact);
-        fprintf(out, "  %s\n", fact_fault(number, fact));
+        explain_fact(out, number, fact, "");
     }
 }

@@ -10,10 +10,13 @@
 enum { TABLE_LOOK = 1 << 20 };
 
 /* Says of a table refused by factbox_read with 1 to 6 or 12: file, line and refusal, then the line itself (for 6 also the one
- * before it), the column or the field, and the likely cause. */
+ * before it), the column or the fields, and the likely cause. */
 void explain_table(FILE *out, const char *name, const uint8_t *table, size_t len, uint64_t result);
 
 /* The refusal 3, 4, 5 or 12 that the fact by itself gets from the box; 0 if none. */
 unsigned fact_refusal(const uint32_t *fact);
+
+/* Says which fields of the fact earn refusal 3, 4, 5 or 12, and why: a line each, with `more` at its end. */
+void explain_fact(FILE *out, unsigned number, const uint32_t *fact, const char *more);
 
 #endif

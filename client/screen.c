@@ -58,8 +58,10 @@ static const char NAMED[] = ": put the term that the answer named";
 
 /* Shows that a question was refused, where it stands and why. */
 static int refuse_question(unsigned number, const uint32_t *question, const lines *at) {
+    const char *why;
     answer("REFUSED", RED, question_words(question));
-    printf("%u %s\n  %s:%u: %s\n", number, question_refusal(number), at->name, at->line, question_fault(number, question));
+    printf("%u %s\n", number, question_refusal(number));
+    for (size_t part = 0; (why = question_fault(number, question, &part));) printf("  %s:%u: %s\n", at->name, at->line, why);
     return REFUSED;
 }
 
@@ -72,7 +74,7 @@ static int refuse_derivation(uint64_t result, const uint32_t *fact) {
     printf("%u %s", number, refusal_words(number));
     if (place > 0) printf(" (derivation line %u)", place);
     printf("\n");
-    if (of_triple) printf("  %s%s\n", fact_fault(number, fact), gap ? NAMED : "");
+    if (of_triple) explain_fact(stdout, number, fact, gap ? NAMED : "");
     return REFUSED;
 }
 

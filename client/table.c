@@ -38,20 +38,24 @@ static size_t count, repeats, faults;
 /* The result, ready to be written out; a line in words has 24 bytes. */
 static uint8_t result[24 * FACTBOX_FACTS_MAX + 1];
 
-/* Says what is wrong with a line. After many, the rest is not read. */
-static void complain(const char *name, unsigned line, const char *what) {
-    fprintf(stderr, "%s:%u: %s\n", name, line, what);
+/* Counts a line that can't be taken. After many, the rest is not read. */
+static void count_fault(void) {
     if (++faults < FAULTS_SHOWN) return;
     fprintf(stderr, "table: %d lines can't be taken, the rest was not read\n", FAULTS_SHOWN);
     exit(1);
 }
 
-/* Says that the box refuses a fact, which one of its fields earns that, and where it was read. */
+/* Says what is wrong with a line. */
+static void complain(const char *name, unsigned line, const char *what) {
+    fprintf(stderr, "%s:%u: %s\n", name, line, what);
+    count_fault();
+}
+
+/* Says that the box refuses a fact, where it was read, and which of its fields earn that. */
 static void complain_refused(const entry *e, unsigned number) {
-    char text[320];
-    const char *field = fact_fault(number, e->fact);
-    snprintf(text, sizeof text, "%u %s%s%s", number, refusal_words(number), *field ? ": " : "", field);
-    complain(e->name, e->line, text);
+    fprintf(stderr, "%s:%u: %u %s\n", e->name, e->line, number, refusal_words(number));
+    explain_fact(stderr, number, e->fact, "");
+    count_fault();
 }
 
 static int compare(const uint32_t *a, const uint32_t *b) {

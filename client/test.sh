@@ -6,6 +6,12 @@ work=$(mktemp -d)
 trap 'rm -rf "$work"' EXIT
 DAMAGES=300
 
+# refusal 12, and what is said of a literal in a field of a fact
+class='12 class: a literal as subject or object of subclass, subproperty, domain or range, or as object of type'
+literal='is a literal (40000 to 59999); the'
+a_class="must be a class: put the class's number, a name (6 to 39999)"
+a_property="must be a property: put the property's number, a name (6 to 39999)"
+
 stop() {
     echo "$name: $*"
     exit 1

@@ -76,12 +76,13 @@ static int is_literal(uint32_t term) { return term >= LITERAL_FIRST && term < BL
 
 /* Why the fact's number in this field earns refusal 12, and what belongs there; NULL if it does not. */
 static const char *class_fault(const uint32_t *fact, size_t field) {
-    static char text[128];
+    static char text[192];
     uint32_t predicate = fact[1];
     const char *what = predicate <= VOCABULARY_LAST ? BELONGS[predicate][field] : NULL;
     if (!what || !is_literal(fact[field])) return NULL;
-    snprintf(text, sizeof text, "is a literal (40000 to 59999); the %s of %s is a %s: put its own number, a name (6 to 39999)",
-             FIELD_NAMES[field], VOCABULARY[predicate], what);
+    snprintf(text, sizeof text,
+             "is a literal (40000 to 59999); the %s of %s must be a %s: put the %s's number, a name (6 to 39999)",
+             FIELD_NAMES[field], VOCABULARY[predicate], what, what);
     return text;
 }
 
@@ -102,15 +103,16 @@ static const char *number_fault(unsigned number, const uint32_t *fact, size_t fi
     }
 }
 
-const char *fact_fault(unsigned number, const uint32_t *fact) {
-    static char text[192];
-    for (size_t i = 0; i < 3; i++) {
-        const char *why = number_fault(number, fact, i);
+const char *fact_fault(unsigned number, const uint32_t *fact, size_t *field) {
+    static char text[256];
+    while (*field < 3) {
+        size_t at = (*field)++;
+        const char *why = number_fault(number, fact, at);
         if (!why) continue;
-        snprintf(text, sizeof text, "the %s, %u, %s", FIELD_NAMES[i], (unsigned)fact[i], why);
+        snprintf(text, sizeof text, "the %s, %u, %s", FIELD_NAMES[at], (unsigned)fact[at], why);
         return text;
     }
-    return "";
+    return NULL;
 }
 
 /* Why a question's gaps earn refusal 4. */
@@ -123,10 +125,11 @@ static const char *gap_fault(const uint32_t *question) {
     return text;
 }
 
-const char *question_fault(unsigned number, const uint32_t *question) {
+const char *question_fault(unsigned number, const uint32_t *question, size_t *field) {
     static char text[64];
+    if (number != FACTBOX_BLANK && number != FACTBOX_ALLOWANCE) return fact_fault(number, question, field);
+    if ((*field)++ > 0) return NULL;
     if (number == FACTBOX_BLANK) return gap_fault(question);
-    if (number != FACTBOX_ALLOWANCE) return fact_fault(number, question);
     snprintf(text, sizeof text, "the allowance, %u, is above 1,024", (unsigned)question[3]);
     return text;
 }

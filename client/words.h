@@ -30,14 +30,15 @@ const char *refusal_words(unsigned number);
 /* The same of a question, where a blank node is a gap. */
 const char *question_refusal(unsigned number);
 
-/* Which field of the fact earns refusal 3, 4, 5 or 12, and why. The text holds until the next call. */
-const char *fact_fault(unsigned number, const uint32_t *fact);
+/* Which field of the fact earns refusal 3, 4, 5 or 12, and why: the first one from *field on, which is then the one behind
+ * it; NULL if there is none. The text holds until the next call. */
+const char *fact_fault(unsigned number, const uint32_t *fact, size_t *field);
 
 /* Whether a term is blank: in a question, a gap. */
 int is_blank(uint32_t term);
 
-/* Why a question, a triple and its allowance, earns refusal 3, 4, 5, 12 or 7. The text holds until the next call. */
-const char *question_fault(unsigned number, const uint32_t *question);
+/* The same of a question, a triple and its allowance, and of 7. Of 4 and 7 there is one text for the whole. */
+const char *question_fault(unsigned number, const uint32_t *question, size_t *field);
 
 /* A fact in words: "10 type 12". The text holds until the next call. */
 const char *fact_words(const uint32_t *fact);
