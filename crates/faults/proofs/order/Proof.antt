@@ -7,11 +7,11 @@ use Rattle.faults.proofs.order.Tie as tie
 
 returns : tie.Need-returns
 unfolding orderOf
-returns c = rw (not-true _ (c .if1 .taken))
+returns c = rw (not-true (c .before .args .ascends) (c .if1 .taken))
 
 returns-2 : tie.Need-returns-2
 unfolding orderOf
-returns-2 c = rw (not-false _ (c .if1 .left))
+returns-2 c = rw (not-false (c .before .args .ascends) (c .if1 .left))
 
 pub order-spec : {M : Type 1} → statement M
 order-spec = tie.close (tie.spec returns returns-2)
