@@ -113,8 +113,8 @@ object-name f w e = node-name (kindOf (f .object)) (rw e at (parts f w .2))
 pub name-free : (n : ℕ) → isName (kindOf n) ≡ true → (namedSubject n ≡ false) × (namedObject n ≡ false)
 unfolding namedObject kindOf
 name-free n e =
-    let x = not-word sc refl in let y = not-word sp refl in let z = not-word dom refl in let u = not-word range refl in
-    (simp (x, y, z, u), simp (x, y, z, u, not-word type refl))
+    let x = not-word sc refl in let y = not-word sp refl in let z = not-word dom refl in let u = not-word range refl in let v = not-word type refl in
+    (simp (x, y, z, u, v), simp (x, y, z, u, v))
   where
     not-word : (v : ℕ) → isName (kindOf v) ≡ false → eqb n v ≡ false
     not-word v f = by-cases (eqb n v) (λ g. absurd (true≢false (sym e ∙ ap (λ (x : ℕ). isName (kindOf x)) (eqb-true n v g) ∙ f))) (λ g. g)

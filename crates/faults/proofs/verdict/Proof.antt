@@ -35,20 +35,28 @@ is-text-as-class-requires c κs = search needs
 
 returns-4 : tie.Need-returns-4
 unfolding verdictOf
-returns-4 c = 
+returns-4 c =
     let x = c .before .before .before in
-    rw (← x .before .before .before .has-no-term .ensures, x .before .before .if2 .left, ← x .before .has-blank .ensures, x .if3 .left, ← c .before .before .is-misplaced .ensures, c .if4 .taken)
+    rw (← x .before .before .before .has-no-term .ensures, x .before .before .if2 .left, ← x .before .has-blank .ensures, x .if3 .left, ← c .before .before .is-misplaced .ensures, ← c .before .is-text-as-class .ensures, c .if4 .taken)
 
 returns-5 : tie.Need-returns-5
 unfolding verdictOf
-returns-5 c = 
+returns-5 c =
     let y = c .before in
     let x = y .before .before .before in
-    rw (← x .before .before .before .has-no-term .ensures, x .before .before .if2 .left, ← x .before .has-blank .ensures, x .if3 .left, ← y .before .before .is-misplaced .ensures, y .if4 .left,
-    ← y .before .is-text-as-class .ensures, c .if5 .taken)
+    rw (
+      ← x .before .before .before .has-no-term .ensures,
+      x .before .before .if2 .left,
+      ← x .before .has-blank .ensures,
+      x .if3 .left,
+      ← y .before .before .is-misplaced .ensures,
+      y .if4 .left,
+      ← y .before .is-text-as-class .ensures,
+      c .if5 .taken,
+    )
 
 returns-6 : tie.Need-returns-6
-returns-6 c = 
+returns-6 c =
     let y = c .before in
     let x = y .before .before .before in
     let z = x .before .before in
