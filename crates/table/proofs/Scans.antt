@@ -44,11 +44,14 @@ pub judged-line : (at : ℕ → Fact) (i : ℕ) (last : Fact) → (0 < i → las
 unfolding firstEarned earns judged verdictOf orderOf faultOf
 judged-line at i last h = rw (← above-last at i last h) (in-turn (hasNoTerm (at i)) (hasBlank (at i)) (misplaced (at i)) (textAsClass (at i)) (above at i) Term Blank Part Class Order)
 
+pub verdict-line : (at : ℕ → Fact) (i : ℕ) (last : Fact) → (0 < i → last ≡ at (i - 1)) → verdictOf (eqb i 0 || before last (at i)) (at i) ≡ firstEarned (earns true at i) tried
+unfolding judged
+verdict-line at i last h = sym (judged-line at i last h)
+
 -- where its fact is well-formed, by its order alone
 pub ordered-line : (at : ℕ → Fact) (i : ℕ) (last : Fact) → (0 < i → last ≡ at (i - 1)) → wellFormed (at i) ≡ true
     → orderOf (eqb i 0 || before last (at i)) ≡ firstEarned (earns true at i) tried
-unfolding judged
-ordered-line at i last h w = sym (judged-line at i last h ∙ verdict-formed (at i) (eqb i 0 || before last (at i)) w)
+ordered-line at i last h w = sym (verdict-formed (at i) (eqb i 0 || before last (at i)) w) ∙ verdict-line at i last h
 
 -- a scan goes on behind a line that is sound, and stops at one that is not
 pub scan-on : (judge : ℕ → Verdict) (n i : ℕ) → i < n → judge i ≡ Sound → scan judge i (n - i) ≡ scan judge (i + 1) (n - (i + 1))

@@ -56,7 +56,7 @@ pub fn judge_line(bytes: &[u8], i: usize, last: Fact) -> Judged
             fact: f,
         };
     }
-    let v = judge(i == 0, last, f);
+    let v = faults::verdict((i == 0) | faults::comes_before(last, f), f);
     Judged {
         verdict: v,
         fact: f,

@@ -11,7 +11,7 @@ use Rattle.facts.specs.Facts.{fact}
 use Rattle.table.specs.Scans.{earns, firstEarned}
 use Rattle.table.specs.Tables.{lineFact, lineVerdict}
 use Rattle.table.specs.Judged.{lacksField}
-use Rattle.table.proofs.Scans.{judged-line, ordered-line}
+use Rattle.table.proofs.Scans.{verdict-line, ordered-line}
 use Rattle.table.proofs.Torn.{torn-line, formed-laid, laid-fact, not-sound}
 use Rattle.table_lines.proofs.judge_line.Statement.{statement}
 use Rattle.table_lines.proofs.judge_line.Tie as tie
@@ -85,22 +85,26 @@ returns-2 c =
     let torn : laidOut 3 b (16 * i) ≡ false = not-true _ (sym (torn-line b (16 * i)) ∙ rw (c .before .before .lacks-field .ensures, f₁, f₂, f₃) at (c .if2 .taken)) in
     record { verdict = rw torn; fact = λ z. absurd (not-sound _ z) }
 
-judge-requires : tie.Need-judge-requires
-judge-requires c κs = search needs
+comes-before-requires-2 : tie.Need-comes-before-requires-2
+comes-before-requires-2 c κs = search needs
+
+verdict-requires : tie.Need-verdict-requires
+verdict-requires c κs = search needs
 
 returns-3 : tie.Need-returns-3
 unfolding lineVerdict lacksField
 returns-3 c =
-    let s = c .before .before .before .before .before .before .before .before .before .before .before in
+    let y = c .before in
+    let s = y .before .before .before .before .before .before .before .before .before .before .before in
     let b = now (s .args .bytes) in
     let i = s .args .i in
-    let f₁ = c .before .before .before .before .before .before .before .before .before .field-at .ensures in
-    let f₂ = c .before .before .before .before .before .before .before .before .field-at2 .ensures in
-    let f₃ = c .before .before .before .before .before .before .before .field-at3 .ensures in
-    let laid : laidOut 3 b (16 * i) ≡ true = not-false _ (sym (torn-line b (16 * i)) ∙ rw (c .before .before .before .lacks-field .ensures, f₁, f₂, f₃) at (c .before .if2 .left)) in
-    let f : fact (c .before .before .before .before .before .before .before .before .before .field-at .result) (c .before .before .before .before .before .before .before .before .field-at2 .result) (c .before .before .before .before .before .before .before .field-at3 .result) ≡ lineFact b i =
+    let f₁ = y .before .before .before .before .before .before .before .before .before .field-at .ensures in
+    let f₂ = y .before .before .before .before .before .before .before .before .field-at2 .ensures in
+    let f₃ = y .before .before .before .before .before .before .before .field-at3 .ensures in
+    let laid : laidOut 3 b (16 * i) ≡ true = not-false _ (sym (torn-line b (16 * i)) ∙ rw (y .before .before .before .lacks-field .ensures, f₁, f₂, f₃) at (y .before .if2 .left)) in
+    let f : fact (y .before .before .before .before .before .before .before .before .before .field-at .result) (y .before .before .before .before .before .before .before .before .field-at2 .result) (y .before .before .before .before .before .before .before .field-at3 .result) ≡ lineFact b i =
     rw (f₁, f₂, f₃) (laid-fact b i laid) in
-    record { verdict = c .judge .ensures ∙ rw (f, laid) (sym (judged-line (lineFact b) i (s .args .last) (s .pre .before))); fact = λ z. f }
+    record { verdict = c .verdict .ensures ∙ rw (y .comes-before2 .ensures, f, laid) (verdict-line (lineFact b) i (s .args .last) (s .pre .before)); fact = λ z. f }
 
 pub judge-line-spec : {M : Type 1} → statement M
 judge-line-spec =
@@ -122,5 +126,6 @@ judge-line-spec =
     add-if2
     shared-slice-read-if2
     returns-2
-    judge-requires
+    comes-before-requires-2
+    verdict-requires
     returns-3)
