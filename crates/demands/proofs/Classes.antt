@@ -2,13 +2,14 @@
 -- Assumes nothing.
 use mathlib.Core.Path.{_≡_, sym, _∙_}
 use mathlib.Core.Logic.{inl, inr, ⊎-elim, ⊎-map}
-use mathlib.Core.Bool.{Bool, true, false, not, _&&_, true≢false}
+use mathlib.Core.Bool.{Bool, true, false, cond, not, _&&_, true≢false}
 use mathlib.Core.List.{List}
 use Prim.Native.Nat.{ℕ, suc}
 use lib.Dec.{T}
 use mir.Facts.{and-yes, or-yes}
 use Rattle.facts.specs.declared.Fact.{Fact}
-use Rattle.facts.specs.declared.Refusal.the-variants.{Step}
+use Rattle.facts.specs.declared.Refusal.the-variants.{Term, Blank, Part, Class, Step}
+use Rattle.facts.specs.declared.Verdict.the-variants.{Sound, Faulty}
 use Rattle.facts.specs.Terms.{kindOf, isName, isLiteral, isVocabulary}
 use Rattle.facts.specs.Facts.{namedSubject, namedObject, isNode, isPredicate, wellFormed, hasNoTerm, hasBlank, misplaced, textAsClass, faultOf}
 use Rattle.facts.specs.Gaps.{Askable, blankRefused, questionFault}
@@ -42,21 +43,22 @@ module _ (f : Fact) where
   untold : textAsClass f ≡ false → TextAsClass f → ⊥
   untold e h = true≢false (sym (class-says f .1 h) ∙ e)
 
-  formed-plain : T (wellFormed f) → textAsClass f ≡ false
-  unfolding faultOf
-  formed-plain w =
-      let a = passed (hasNoTerm f) _ _ (fault-none f .1 w) in
-      let b = passed (hasBlank f) _ _ (a .1) in
+  -- whichever blanks earn 4
+  last-passed : (blanks : Bool) → cond (hasNoTerm f) (Faulty Term) (cond blanks (Faulty Blank) (cond (misplaced f) (Faulty Part) (cond (textAsClass f) (Faulty Class) Sound))) ≡ Sound
+      → textAsClass f ≡ false
+  last-passed blanks e =
+      let a = passed (hasNoTerm f) _ _ e in
+      let b = passed blanks _ _ (a .1) in
       let c = passed (misplaced f) _ _ (b .1) in
       of-F (textAsClass f) (passed (textAsClass f) _ _ (c .1) .0)
 
+  formed-plain : T (wellFormed f) → textAsClass f ≡ false
+  unfolding faultOf
+  formed-plain w = last-passed (hasBlank f) (fault-none f .1 w)
+
   asked-plain : Askable f → textAsClass f ≡ false
   unfolding questionFault
-  asked-plain q =
-      let a = passed (hasNoTerm f) _ _ (question-none f .1 q) in
-      let b = passed (blankRefused f) _ _ (a .1) in
-      let c = passed (misplaced f) _ _ (b .1) in
-      of-F (textAsClass f) (passed (textAsClass f) _ _ (c .1) .0)
+  asked-plain q = last-passed (blankRefused f) (question-none f .1 q)
 
   triple-of : T (wellFormed f) → Triple f
   unfolding isPredicate

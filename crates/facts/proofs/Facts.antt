@@ -123,19 +123,26 @@ name-free n e =
 pub data-nodes : (f : Fact) → T (wellFormed f) → isName (kindOf (f .predicate)) ≡ true → T (isNode false (f .subject)) × T (isNode false (f .object))
 data-nodes f w n = let x = name-free (f .predicate) n in let p = parts f w in (rw (x .0) at (p .0), rw (x .1) at (p .2))
 
+-- what holds of 1 to 5 holds of all the vocabulary
+by-word : (Q : ℕ → Type 0) → Q sc → Q sp → Q dom → Q range → Q type → (n : ℕ) → T (isVocabulary (kindOf n)) → Q n
+unfolding kindOf
+by-word Q a b c d e n t = go n (vocabulary-below n t) t
+  where
+    go : (m : ℕ) → m < 6 → T (isVocabulary (kindOf m)) → Q m
+    go zero l t = absurd t
+    go (suc zero) l t = a
+    go (suc (suc zero)) l t = b
+    go (suc (suc (suc zero))) l t = c
+    go (suc (suc (suc (suc zero)))) l t = d
+    go (suc (suc (suc (suc (suc zero))))) l t = e
+    go (suc (suc (suc (suc (suc (suc k)))))) l t = absurd (omega arith)
+
 -- every other predicate asks for a name as object
 pub word-object : (n : ℕ) → T (isPredicate n) → isName (kindOf n) ≡ false → namedObject n ≡ true
 unfolding isPredicate namedObject
-word-object n p e = ⊎-elim (λ h. absurd (true≢false (sym (of-T (isName (kindOf n)) h) ∙ e))) (λ h. go n (vocabulary-below n h) h) (or-yes (isName (kindOf n)) (isVocabulary (kindOf n)) p)
-  where
-    go : (m : ℕ) → m < 6 → T (isVocabulary (kindOf m)) → namedObject m ≡ true
-    go zero l t = absurd t
-    go (suc zero) l t = refl
-    go (suc (suc zero)) l t = refl
-    go (suc (suc (suc zero))) l t = refl
-    go (suc (suc (suc (suc zero)))) l t = refl
-    go (suc (suc (suc (suc (suc zero))))) l t = refl
-    go (suc (suc (suc (suc (suc (suc k)))))) l t = absurd (omega arith)
+word-object n p e =
+    ⊎-elim (λ h. absurd (true≢false (sym (of-T (isName (kindOf n)) h) ∙ e))) (by-word (λ m. namedObject m ≡ true) refl refl refl refl refl n)
+    (or-yes (isName (kindOf n)) (isVocabulary (kindOf n)) p)
 
 and-all : (b : Bool) → b && true ≡ b
 and-all true = refl
@@ -173,17 +180,9 @@ free-subject : (p : ℕ) → not (namedSubject p) && isPredicate p ≡ isName (k
 unfolding isPredicate namedSubject kindOf
 free-subject p =
     by-cases (isName (kindOf p)) (λ e. rw (e, name-free p e .0))
-    (λ e. by-cases (isVocabulary (kindOf p)) (λ h. go p (vocabulary-below p (rw h tt)))
+    (λ e. by-cases (isVocabulary (kindOf p))
+    (λ h. by-word (λ m. not (namedSubject m) && isPredicate m ≡ isName (kindOf m) || eqb m type) refl refl refl refl refl p (rw h tt))
     (λ h. by-cases (eqb p type) (λ g. absurd (true≢false (ap (λ (x : ℕ). isVocabulary (kindOf x)) (sym (eqb-true p type g)) ∙ h))) (λ g. rw (e, h, g) (and-false (not (namedSubject p)) false refl))))
-  where
-    go : (n : ℕ) → n < 6 → not (namedSubject n) && isPredicate n ≡ isName (kindOf n) || eqb n type
-    go zero l = refl
-    go (suc zero) l = refl
-    go (suc (suc zero)) l = refl
-    go (suc (suc (suc zero))) l = refl
-    go (suc (suc (suc (suc zero)))) l = refl
-    go (suc (suc (suc (suc (suc zero))))) l = refl
-    go (suc (suc (suc (suc (suc (suc k)))))) l = absurd (omega arith)
 
 -- a literal as object leaves the names
 free-object : (p : ℕ) → isPredicate p && not (namedObject p) ≡ isName (kindOf p)
