@@ -1,0 +1,5 @@
+pub mod Weights
+pub mod Index
+pub mod Numbering
+pub mod Vocabulary
+pub mod Entered

@@ -1,0 +1,4 @@
+pub mod Weights
+pub mod Numbering
+pub mod Vocabulary
+pub mod Index
