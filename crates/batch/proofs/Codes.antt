@@ -15,7 +15,7 @@ use Rattle.columns.proofs.Lines.{line-read}
 use Rattle.facts.specs.declared.Fact.{Fact}
 use Rattle.facts.specs.declared.Code.{Code}
 use Rattle.facts.specs.declared.Refusal.{Refusal}
-use Rattle.facts.specs.declared.Refusal.the-variants.{Size, Column, Term, Blank, Part, Order, Allowance, Short, Form, Step, End, Class}
+use Rattle.facts.specs.declared.Refusal.the-variants.{Size, Column, Term, Blank, Part, Order, Allowance, Short, Form, Step, End, Class, Statement, UnknownNode, Crowd}
 use Rattle.facts.specs.declared.Verdict.{Verdict}
 use Rattle.facts.specs.declared.Verdict.the-variants.{Sound, Faulty}
 use Rattle.facts.specs.declared.Answer.{Answer}
@@ -61,6 +61,9 @@ earned laid at i Form e = λ z. omega arith
 earned laid at i Step e = λ z. omega arith
 earned laid at i End e = λ z. omega arith
 earned laid at i Class e = λ z. omega arith
+earned laid at i Statement e = λ z. omega arith
+earned laid at i UnknownNode e = λ z. omega arith
+earned laid at i Crowd e = λ z. omega arith
 earned laid at i Short e = let z : _≡_ {A = ℕ} 0 1 = cc in absurd (omega arith)
 
 -- nor does a table

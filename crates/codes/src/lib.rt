@@ -22,6 +22,9 @@ fn refusal_number(r: Refusal) -> u32
         Refusal::Step => 10,
         Refusal::End => 11,
         Refusal::Class => 12,
+        Refusal::Statement => 13,
+        Refusal::UnknownNode => 14,
+        Refusal::Crowd => 15,
     }
 }
 

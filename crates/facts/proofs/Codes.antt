@@ -9,17 +9,17 @@ use lib.ListN.{getD}
 use lib.Dec.{eqb}
 use Rattle.facts.specs.declared.Code.{Code}
 use Rattle.facts.specs.declared.Refusal.{Refusal}
-use Rattle.facts.specs.declared.Refusal.the-variants.{Size, Column, Term, Blank, Part, Order, Allowance, Short, Form, Step, End, Class}
+use Rattle.facts.specs.declared.Refusal.the-variants.{Size, Column, Term, Blank, Part, Order, Allowance, Short, Form, Step, End, Class, Statement, UnknownNode, Crowd}
 use Rattle.facts.specs.declared.Answer.{Answer}
 use Rattle.facts.specs.declared.Answer.the-variants.{Done, Yes, No, Long, Accepted, Refused}
 use Rattle.facts.specs.Answers.{codeOf, numberOf, YesWith, LongWith, SaysNo, AcceptedWith, RefusedWith}
 
 -- the refusals in the order of their numbers
 abbrev refusals : List Refusal
-refusals = Size ∷ Column ∷ Term ∷ Blank ∷ Part ∷ Order ∷ Allowance ∷ Short ∷ Form ∷ Step ∷ End ∷ Class ∷ []
+refusals = Size ∷ Column ∷ Term ∷ Blank ∷ Part ∷ Order ∷ Allowance ∷ Short ∷ Form ∷ Step ∷ End ∷ Class ∷ Statement ∷ UnknownNode ∷ Crowd ∷ []
 
 -- the largest number of a refusal
-pub number-within : (r : Refusal) → numberOf r ≤ 12
+pub number-within : (r : Refusal) → numberOf r ≤ 15
 number-within Size = omega arith
 number-within Column = omega arith
 number-within Term = omega arith
@@ -32,6 +32,9 @@ number-within Form = omega arith
 number-within Step = omega arith
 number-within End = omega arith
 number-within Class = omega arith
+number-within Statement = omega arith
+number-within UnknownNode = omega arith
+number-within Crowd = omega arith
 
 -- an answer by its numbers
 abbrev answerFor : Code → Answer
@@ -60,6 +63,9 @@ answer-back (Refused Form place) = refl
 answer-back (Refused Step place) = refl
 answer-back (Refused End place) = refl
 answer-back (Refused Class place) = refl
+answer-back (Refused Statement place) = refl
+answer-back (Refused UnknownNode place) = refl
+answer-back (Refused Crowd place) = refl
 
 -- answers with the same numbers are the same
 pub same-answer : (a b : Answer) → codeOf a ≡ codeOf b → a ≡ b

@@ -4,7 +4,7 @@ use mathlib.Core.Path.{_≡_}
 use mathlib.Core.Logic.{_⊎_}
 use Prim.Native.Nat.{ℕ}
 use Rattle.facts.specs.declared.Refusal.{Refusal}
-use Rattle.facts.specs.declared.Refusal.the-variants.{Size, Column, Term, Blank, Part, Order, Allowance, Short, Form, Step, End, Class}
+use Rattle.facts.specs.declared.Refusal.the-variants.{Size, Column, Term, Blank, Part, Order, Allowance, Short, Form, Step, End, Class, Statement, UnknownNode, Crowd}
 use Rattle.facts.specs.declared.Answer.{Answer}
 use Rattle.facts.specs.declared.Answer.the-variants.{Done, Yes, No, Long, Accepted, Refused}
 use Rattle.facts.specs.declared.Code.{Code}
@@ -30,6 +30,9 @@ numberOf Form = 9
 numberOf Step = 10
 numberOf End = 11
 numberOf Class = 12
+numberOf Statement = 13
+numberOf UnknownNode = 14
+numberOf Crowd = 15
 
 -- a refusal carries number and place, count 0; every other answer its number and count, place 0; only a yes names a term
 abbrev pub codeOf : Answer → Code

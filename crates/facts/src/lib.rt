@@ -1,4 +1,4 @@
-// Terms, facts and answers (document 01, "Terms and facts" and its table of numbers; document 02, Points 1 and 2): types, definitions and
+// Terms, facts and answers (document 01, "Terms and facts" and its table of numbers; document 02, Points 1 to 3): types, definitions and
 // laws.
 
 // The kind of a number that stands where a term belongs.
@@ -43,6 +43,9 @@ pub enum Refusal {
     Step,
     End,
     Class,
+    Statement,
+    UnknownNode,
+    Crowd,
 }
 
 // What a test finds: nothing to refuse, or the first refusal that is earned.

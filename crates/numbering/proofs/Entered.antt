@@ -11,12 +11,13 @@ use native.Mathlib.Decide.{decLt}
 use lib.ListN.{length, getD, take, drop}
 use lib.Seq.{getD-take, getD-drop}
 use lib.Dec.{eqb}
+use Rattle.ntriples.specs.Tokens.{Token, part}
 use Rattle.numbering.specs.declared.Counts.{Counts}
 use Rattle.numbering.specs.declared.Numbered.{Numbered}
 use Rattle.numbering.specs.Weights.{weight}
 use Rattle.ordered.specs.Inserted.{inserted}
-use Rattle.numbering.specs.Numbering.{Token, isLiteral, Known, withToken, knows, numberIn}
-use Rattle.numbering.specs.Index.{part, entry, fromOf, toOf, numberOf, tokenOf, tokenAt, entries, nextOf, Whole, Ordered, Held, Missing, Kept, Here, Entered}
+use Rattle.numbering.specs.Numbering.{isLiteral, Known, withToken, knows, numberIn}
+use Rattle.numbering.specs.Index.{entry, fromOf, toOf, numberOf, tokenOf, tokenAt, entries, nextOf, Whole, Ordered, Held, Missing, Kept, Here, Entered}
 use Rattle.ordered.proofs.Inserted.{here, each, still, rises, inserted-length}
 use Rattle.numbering.proofs.Numbering.{by-cases, known-kept, known-new, known-still, known-more, new-literal, new-name}
 

@@ -7,9 +7,9 @@ use native.Mathlib.Omega.{arith}
 use native.Mathlib.Decide.{decLt}
 use lib.ListN.{length, getD, take, drop, length-take, List·getD-eq-default}
 use lib.Seq.{getD-take, getD-drop}
+use Rattle.ntriples.specs.Tokens.{Token, part}
 use Rattle.numbering.specs.Weights.{weight, Bytes}
-use Rattle.numbering.specs.Numbering.{Token}
-use Rattle.numbering.specs.Index.{part, fromOf, toOf, tokenOf, tokenAt, numberOf, Ordered, Cut, Held, Missing}
+use Rattle.numbering.specs.Index.{fromOf, toOf, tokenOf, tokenAt, numberOf, Ordered, Cut, Held, Missing}
 use Rattle.numbering.proofs.Weights.{weight-injective}
 use Rattle.ordered.proofs.Rising.{lighter}
 

@@ -1,4 +1,5 @@
 pub mod Weights
 pub mod Numbering
 pub mod Vocabulary
+pub mod Appearance
 pub mod Index

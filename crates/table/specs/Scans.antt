@@ -8,7 +8,7 @@ use Prim.Native.Nat.{ℕ, zero, suc, _-_}
 use lib.Dec.{eqb}
 use Rattle.facts.specs.declared.Fact.{Fact}
 use Rattle.facts.specs.declared.Refusal.{Refusal}
-use Rattle.facts.specs.declared.Refusal.the-variants.{Size, Column, Term, Blank, Part, Order, Allowance, Short, Form, Step, End, Class}
+use Rattle.facts.specs.declared.Refusal.the-variants.{Size, Column, Term, Blank, Part, Order, Allowance, Short, Form, Step, End, Class, Statement, UnknownNode, Crowd}
 use Rattle.facts.specs.declared.Verdict.{Verdict}
 use Rattle.facts.specs.declared.Verdict.the-variants.{Sound, Faulty}
 use Rattle.facts.specs.Facts.{hasNoTerm, hasBlank, misplaced, textAsClass, before}
@@ -33,6 +33,9 @@ earns laid at i Short = false
 earns laid at i Form = false
 earns laid at i Step = false
 earns laid at i End = false
+earns laid at i Statement = false
+earns laid at i UnknownNode = false
+earns laid at i Crowd = false
 
 -- the order in which a line's refusals are tried
 abbrev pub tried : List Refusal

@@ -6,11 +6,12 @@ use native.Mathlib.Omega.{arith}
 use lib.ListN.{length, getD}
 use borrow.Author.Needs.{needs}
 use denote.Ref.{now}
+use Rattle.ntriples.specs.Tokens.{part}
 use Rattle.numbering.specs.declared.Found.{Found}
 use Rattle.numbering.specs.declared.Found.the-variants.{Number, Place}
 use Rattle.numbering.specs.declared.Numbered.{Numbered}
 use Rattle.ordered.specs.Inserted.{inserted}
-use Rattle.numbering.specs.Index.{part, entry, entries, nextOf, Sought, Missing}
+use Rattle.numbering.specs.Index.{entry, entries, nextOf, Sought, Missing}
 use Rattle.numbering.proofs.Entered.{entered-found, entered-new, entered-as, next-most}
 use Rattle.token_index.proofs.number.Statement.{statement}
 use Rattle.token_index.proofs.number.Tie as tie

@@ -1,0 +1,4 @@
+pub mod Lines
+pub mod Import
+pub mod Samples
+pub mod Collecting
