@@ -9,6 +9,7 @@ use Rattle.facts.specs.Answers.{codeOf}
 use Rattle.table.specs.Tables.{rowOf, tableBytes, tableOf, tableOfRow, settled, filled}
 use Rattle.acceptance.specs.Check.{checkAnswer}
 use Rattle.question.specs.Question.{Question, questionAnswer, outputAfter}
+use Rattle.imports.specs.Import.{importOf}
 use Rattle.entail.specs.Packed.{packed}
 
 -- a question; entry and exit are the output, document 01's paper
@@ -29,3 +30,8 @@ pub record ReadCall (b entry exit : List ℕ) (r : ℕ) : Type 0 where
 pub record WriteCall (row entry exit : List ℕ) (r : ℕ) : Type 0 where
   pub answer : r ≡ packed (codeOf (settled tableBytes (tableOfRow row) (length entry)))
   pub bytes : exit ≡ filled tableBytes (tableOfRow row) entry
+
+-- importing N-Triples as a table
+pub record ImportCall (input entry exit : List ℕ) (r : ℕ) : Type 0 where
+  pub answer : r ≡ packed (codeOf (settled tableBytes (importOf input) (length entry)))
+  pub bytes : exit ≡ filled tableBytes (importOf input) entry
