@@ -1,9 +1,8 @@
 -- Laws of lines: where the first ends, and the lines from a place on.
 -- Assumes nothing.
-use mathlib.Core.Path.{_≡_, refl, ap, _∙_}
-use mathlib.Core.Bool.{Bool, true, false, cond}
+use mathlib.Core.Path.{_≡_}
 use mathlib.Core.List.{List, [], _∷_, _++_}
-use Prim.Native.Nat.{ℕ, zero, suc, _+_, _-_, _≤_, _<_}
+use Prim.Native.Nat.{ℕ, suc, _+_, _-_, _≤_, _<_}
 use native.Mathlib.Omega.{arith}
 use lib.ListN.{length, getD, take, drop, length-drop, drop-of-length-le}
 use lib.Seq.{drop-cons, drop-drop}
@@ -11,7 +10,7 @@ use lib.Dec.{eqb}
 use borrow.Author.Tests.{eq-eqb, ne-eqb}
 use Rattle.facts.proofs.Terms.{by-cases}
 use Rattle.ntriples.specs.Tokens.{part}
-use Rattle.imports.specs.Lines.{onFirst, linesOf, said, statements, firstLength, lineEnd}
+use Rattle.imports.specs.Lines.{linesOf, said, statements, firstLength, lineEnd}
 
 -- ---- the first line
 
