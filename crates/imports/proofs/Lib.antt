@@ -1,2 +1,3 @@
 pub mod Lines
 pub mod Parted
+pub mod Facts
