@@ -1,3 +1,4 @@
 pub mod Lines
 pub mod Parted
 pub mod Facts
+pub mod Collecting

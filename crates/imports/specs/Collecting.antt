@@ -4,13 +4,28 @@ use mathlib.Core.Path.{_≡_}
 use mathlib.Core.List.{List, [], _∷_, _++_}
 use Prim.Native.Nat.{ℕ, _+_, _*_, _≤_, _<_}
 use lib.ListN.{length}
-use Rattle.ntriples.specs.Tokens.{part}
 use Rattle.ntriples.specs.declared.Span.{Span}
+use Rattle.ntriples.specs.Tokens.{Token, part}
+use Rattle.numbering.specs.declared.Counts.{Counts}
+use Rattle.numbering.specs.declared.Numbered.{Numbered}
+use Rattle.numbering.specs.Numbering.{Known}
+use Rattle.numbering.specs.Vocabulary.{termOf, withTerm}
 use Rattle.numbering.specs.Index.{entries, Kept}
 use Rattle.gathering.specs.Keys.{Holds}
 use Rattle.imports.specs.declared.Progress.{Progress}
 use Rattle.imports.specs.Lines.{Statement}
 use Rattle.imports.specs.Import.{knownBy, factsOf}
+
+-- after a token, which stands from one place to another: its number, and the index with it
+pub record Termed (input : List ℕ) (from to : ℕ) (after : List ℕ) (c : Counts) (r : Numbered) (k : Known) : Type 0 where
+  pub number : r .number ≡ termOf (withTerm k (part input from to)) (part input from to)
+  pub narrow : r .number < 65536
+  pub kept : Kept input after (r .counts) (withTerm k (part input from to))
+  pub more : entries (r .counts) ≤ entries c + 1
+
+-- so for whatever the index holds
+abbrev pub GivesTerm : List ℕ → ℕ → ℕ → List ℕ → List ℕ → Counts → Numbered → Type 0
+GivesTerm input from to before after c r = (k : Known) → Kept input before c k → Termed input from to after c r k
 
 -- after the statements `done` the index has their tokens, and the row the keys of their facts; a fact brings three tokens at most
 pub record Gathers (input items keys : List ℕ) (g : Progress) (done : List Statement) : Type 0 where
@@ -20,6 +35,28 @@ pub record Gathers (input items keys : List ℕ) (g : Progress) (done : List Sta
   pub held : Holds keys (g .facts) (factsOf done)
   pub places : length keys ≡ 1025
   pub tokens : entries (g .counts) ≤ 3 * g .facts
+
+-- some statements are gathered, and there is room for a fact more
+pub record Open (input items keys : List ℕ) (g : Progress) : Type 0 where
+  pub done : List Statement
+  pub gathers : Gathers input items keys g done
+  pub more : g .facts ≤ 1024
+
+-- a token stands at a span behind a place
+pub record Stands (input : List ℕ) (at : ℕ) (s : Span) : Type 0 where
+  pub some : s .from < s .to
+  pub within : at + s .to ≤ length input
+
+-- the token there, and the statement of three
+abbrev pub tokenAt : List ℕ → ℕ → Span → Token
+tokenAt input at s = part input (at + s .from) (at + s .to)
+
+abbrev pub statementAt : List ℕ → ℕ → Span → Span → Span → Statement
+statementAt input at s p o = record { subject = tokenAt input at s; predicate = tokenAt input at p; object = tokenAt input at o }
+
+-- a statement is gathered, whatever was gathered before it
+abbrev pub Grows : List ℕ → Statement → List ℕ → List ℕ → List ℕ → List ℕ → Progress → Progress → Type 0
+Grows input s items items′ keys keys′ g r = (done : List Statement) → Gathers input items keys g done → Gathers input items′ keys′ r (done ++ (s ∷ []))
 
 -- what is collected from an input's statements: the keys of their facts, or more than 1,024
 pub record Collected (ss : List Statement) (keys : List ℕ) (r : ℕ) : Type 0 where
