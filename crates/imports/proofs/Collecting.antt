@@ -3,10 +3,12 @@
 use mathlib.Core.Path.{_≡_, refl, sym, ap, subst, _∙_}
 use mathlib.Core.Logic.{_⊎_, inl, inr, ⊎-elim}
 use mathlib.Core.Bool.{Bool, true, false, cond}
-use mathlib.Core.List.{List}
-use Prim.Native.Nat.{ℕ, _+_, _≤_, _<_}
+use mathlib.Core.List.{List, [], _∷_, _++_, List·Memᴰ}
+use Prim.Native.Nat.{ℕ, suc, _+_, _*_, _≤_, _<_}
 use native.Mathlib.Omega.{arith}
 use lib.ListN.{length}
+use Rattle.facts.specs.declared.Fact.{Fact}
+use Rattle.facts.specs.Facts.{fact}
 use Rattle.facts.proofs.Terms.{by-cases}
 use Rattle.ntriples.specs.Tokens.{Token, part}
 use Rattle.numbering.specs.declared.Counts.{Counts}
@@ -16,7 +18,14 @@ use Rattle.numbering.specs.Vocabulary.{vocabulary, termOf, withTerm}
 use Rattle.numbering.specs.Index.{entries, Kept, Here, Entered}
 use Rattle.numbering.proofs.Numbering.{place-within, known-new}
 use Rattle.numbering.proofs.Terms as terms
-use Rattle.imports.specs.Collecting.{Termed}
+use Rattle.gathering.specs.Gathered.{with}
+use Rattle.gathering.specs.Keys.{Narrow, Holds, AddsTo}
+use Rattle.gathering.proofs.Gathered.{with-length, held-or-new}
+use Rattle.imports.specs.declared.Progress.{Progress}
+use Rattle.imports.specs.Lines.{Statement}
+use Rattle.imports.specs.Import.{knownBy, factOf, factsOf}
+use Rattle.imports.specs.Collecting.{Termed, Gathers}
+use Rattle.imports.proofs.Facts.{known-snoc, facts-snoc, fact-held}
 
 -- the number that the vocabulary gives a token, or 0
 abbrev fixed : Token → ℕ
@@ -79,3 +88,62 @@ termed-other input from to before after c r k h e m =
         kept = subst (Kept input after (r .counts)) (sym w) q;
         more = m .more
       })
+
+-- ---- one statement more
+
+-- what the three terms of a statement come to: the index with its tokens, and its fact
+pub record Stated (input items : List ℕ) (c : Counts) (s : Statement) (f : Fact) (k : Known) : Type 0 where
+  pub kept : Kept input items c (withTerm (withTerm (withTerm k (s .subject)) (s .predicate)) (s .object))
+  pub fact : f ≡ factOf (withTerm (withTerm (withTerm k (s .subject)) (s .predicate)) (s .object)) s
+  pub narrow : Narrow f
+
+-- the three terms, one behind the other
+pub stated : (input : List ℕ) (a b : ℕ) (d e : ℕ) (g h : ℕ) (x y z : List ℕ) (c : Counts) (r t u : Numbered) (k : Known)
+    → Termed input a b x c r k
+    → Termed input d e y (r .counts) t (withTerm k (part input a b))
+    → Termed input g h z (t .counts) u (withTerm (withTerm k (part input a b)) (part input d e))
+    → Stated input z (u .counts) (record { subject = part input a b; predicate = part input d e; object = part input g h }) (fact (r .number) (t .number) (u .number)) k
+stated input a b d e g h x y z c r t u k p q o =
+    let l = withTerm k (part input a b) in
+    let m = withTerm l (part input d e) in
+    let n = withTerm m (part input g h) in
+    let s₁ = terms.numbered-new k (part input a b) in
+    let s₂ = terms.numbered-still l (part input d e) (part input a b) s₁ in
+    let p₂ = terms.numbered-new l (part input d e) in
+    let i : r .number ≡ termOf n (part input a b) = p .number ∙ sym (terms.term-still l (part input d e) (part input a b) s₁) ∙ sym (terms.term-still m (part input g h) (part input a b) s₂) in
+    let j : t .number ≡ termOf n (part input d e) = q .number ∙ sym (terms.term-still m (part input g h) (part input d e) p₂) in
+    record { kept = o .kept; fact = rw (i, j, o .number) refl; narrow = record { subject = p .narrow; predicate = q .narrow; object = o .narrow } }
+
+-- a fact brings three tokens, and one that is held none: so three entries a fact are room enough
+few-entries : (input items items′ : List ℕ) (c d : Counts) (done : List Statement) (s : Statement) → Kept input items c (knownBy done) → Kept input items′ d (knownBy (done ++ (s ∷ [])))
+    → length (factsOf done) ≤ 1024 → entries c ≤ 3 * length (factsOf done) → entries d ≤ entries c + 3
+    → entries d ≤ 3 * length (with (factOf (knownBy (done ++ (s ∷ []))) s) (factsOf done))
+few-entries input items items′ c d done s k l few old more =
+    let f = factOf (knownBy (done ++ (s ∷ []))) s in
+    ⊎-elim
+    (λ (m : List·Memᴰ f (factsOf done)).
+      let e : knownBy (done ++ (s ∷ [])) ≡ knownBy done = fact-held done s (omega (arith, l .names)) m in
+      let a : d .names ≡ c .names = l .names ∙ ap (λ (x : Known). length (x .names)) e ∙ sym (k .names) in
+      let b : d .literals ≡ c .literals = l .literals ∙ ap (λ (x : Known). length (x .literals)) e ∙ sym (k .literals) in
+      omega (arith, with-length f (factsOf done)))
+    (λ (m : length (with f (factsOf done)) ≡ suc (length (factsOf done))). omega arith) (held-or-new f (factsOf done))
+
+pub gathers-more : (input items items′ keys keys′ : List ℕ) (g : Progress) (c : Counts) (n : ℕ) (done : List Statement) (s : Statement) (f : Fact)
+    → Gathers input items keys g done → g .facts ≤ 1024 → length items′ ≡ length items → Stated input items′ c s f (knownBy done) → entries c ≤ entries (g .counts) + 3
+    → AddsTo f keys keys′ (g .facts) n → Gathers input items′ keys′ (record { counts = c; facts = n }) (done ++ (s ∷ []))
+gathers-more input items items′ keys keys′ g c n done s f q few size t more add =
+    let e = known-snoc done s in
+    let a = add (factsOf done) (q .held) in
+    let k : Kept input items′ c (knownBy (done ++ (s ∷ []))) = subst (Kept input items′ c) (sym e) (t .kept) in
+    let x : f ≡ factOf (knownBy (done ++ (s ∷ []))) s = t .fact ∙ ap (λ (x : Known). factOf x s) (sym e) in
+    let w : with f (factsOf done) ≡ factsOf (done ++ (s ∷ [])) = ap (λ (y : Fact). with y (factsOf done)) x ∙ sym (facts-snoc done s) in
+    let m : g .facts ≡ length (factsOf done) = q .held .count in
+    let l = few-entries input items items′ (g .counts) c done s (q .index) k (omega arith) (omega (arith, q .tokens)) more in
+    record {
+      few = q .few;
+      index = k;
+      room = size ∙ q .room;
+      held = subst (Holds keys′ n) w (a .held);
+      places = a .size ∙ q .places;
+      tokens = rw (a .held .count, x) l
+    }
