@@ -1,12 +1,12 @@
 -- What stands where, after a number is put among others.
 -- Assumes nothing.
-use mathlib.Core.Path.{_≡_, refl, sym, ap, _∙_}
-use mathlib.Core.List.{List, [], _∷_, _++_}
+use mathlib.Core.Path.{_≡_, ap, _∙_}
+use mathlib.Core.List.{List, _∷_, _++_, append-assoc}
 use Prim.Native.Nat.{ℕ, zero, suc, _+_, _-_, _≤_, _<_}
 use native.Mathlib.Omega.{arith}
 use native.Mathlib.Decide.{decLt}
-use lib.ListN.{length, getD, take, drop, length-append, length-take, length-drop, List·getD-append}
-use lib.Seq.{slice, length-slice, length-take-le, getD-take, getD-drop, getD-at, getD-append-add}
+use lib.ListN.{length, getD, take, drop, length-append, length-drop, List·getD-append}
+use lib.Seq.{slice, length-slice, length-take-le, take-at, getD-take, getD-drop, getD-at, getD-append-add}
 use Rattle.ordered.specs.Inserted.{inserted}
 
 module _ (l : List ℕ) (n k v : ℕ) (h : k ≤ n) (g : n < length l) where
@@ -44,6 +44,15 @@ module _ (l : List ℕ) (n k v : ℕ) (h : k ≤ n) (g : n < length l) where
       let s : length (slice k n l) ≡ n - k = length-slice k n l (omega arith) in
       let rest : List ℕ = slice k n l ++ drop (suc n) l in
       omega (arith, length-append (take k l) (v ∷ rest), length-append (slice k n l) (drop (suc n) l), length-drop (suc n) l)
+
+  -- the first n and v
+  pub front : take (suc n) (inserted l n k v) ≡ take k l ++ (v ∷ slice k n l)
+  unfolding inserted
+  front =
+      let e : length (take k l) ≡ k = length-take-le k l (omega arith) in
+      let s : length (slice k n l) ≡ n - k = length-slice k n l (omega arith) in
+      rw (← append-assoc (take k l) (v ∷ slice k n l) (drop (suc n) l))
+      (take-at (take k l ++ (v ∷ slice k n l)) (drop (suc n) l) (suc n) (omega (arith, length-append (take k l) (v ∷ slice k n l))))
 
   -- what holds of v and of all that was there holds of all that is there
   pub each : (P : ℕ → Type 0) → ((i : ℕ) → i < n → P (getD l i 0)) → P v → (i : ℕ) → i < suc n → P (getD (inserted l n k v) i 0)
