@@ -1,14 +1,14 @@
 -- A token is entered: what the index holds then.
 -- Assumes nothing.
-use mathlib.Core.Path.{_≡_, refl, sym, ap, _∙_}
-use mathlib.Core.Logic.{_⊎_, ⊎-elim}
-use mathlib.Core.Bool.{Bool, true, false, cond}
+use mathlib.Core.Path.{_≡_, sym, ap, _∙_}
+use mathlib.Core.Logic.{⊎-elim}
+use mathlib.Core.Bool.{true, false}
 use mathlib.Core.List.{List}
-use Prim.Native.Nat.{ℕ, zero, suc, _+_, _-_, _≤_, _<_}
+use Prim.Native.Nat.{ℕ, suc, _+_, _-_, _≤_, _<_}
 use native.Mathlib.Omega.{arith}
 use native.Mathlib.Nat.{add-zero}
 use native.Mathlib.Decide.{decLt}
-use lib.ListN.{length, getD, take, drop}
+use lib.ListN.{length, getD, drop}
 use lib.Seq.{getD-take, getD-drop}
 use lib.Dec.{eqb}
 use Rattle.facts.proofs.Terms.{by-cases}
@@ -18,7 +18,7 @@ use Rattle.numbering.specs.declared.Numbered.{Numbered}
 use Rattle.numbering.specs.Weights.{weight}
 use Rattle.ordered.specs.Inserted.{inserted}
 use Rattle.numbering.specs.Numbering.{isLiteral, Known, withToken, knows, numberIn}
-use Rattle.numbering.specs.Index.{entry, fromOf, toOf, numberOf, tokenOf, tokenAt, entries, nextOf, Whole, Ordered, Held, Missing, Kept, Here, Entered}
+use Rattle.numbering.specs.Index.{entry, fromOf, toOf, numberOf, tokenOf, tokenAt, entries, nextOf, Whole, Held, Missing, Kept, Here, Entered}
 use Rattle.ordered.proofs.Inserted.{here, each, still, rises, inserted-length}
 use Rattle.numbering.proofs.Numbering.{known-kept, known-new, known-still, known-more, new-literal, new-name}
 

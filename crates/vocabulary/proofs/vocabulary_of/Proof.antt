@@ -1,10 +1,8 @@
 -- `vocabulary::vocabulary_of` meets its contract: the tests go down the vocabulary.
 -- Assumes nothing.
-use mathlib.Core.Path.{_≡_, sym, _∙_}
-use mathlib.Core.Bool.{true, false}
+use mathlib.Core.Path.{sym, _∙_}
 use denote.Ref.{now}
-use Rattle.numbering.specs.Numbering.{same}
-use Rattle.numbering.specs.Vocabulary.{bytes, vocabulary, sc, sp, dom, range, type}
+use Rattle.numbering.specs.Vocabulary.{bytes, sc, sp, dom, range, type}
 use Rattle.numbering.proofs.Vocabulary.{term-1, term-2, term-3, term-4, term-5, no-term}
 use borrow.Author.Needs.{needs}
 use Rattle.vocabulary.proofs.vocabulary_of.Statement.{statement}
