@@ -41,10 +41,10 @@ module _ (kind : Token → Bool) (us ds : List Token) (x : Token) (h : Different
             (λ (l : (t ≡ x) × (kind x ≡ true)). (Memᴰ·append-right us (List·Memᴰ·head (l .0)), ap kind (l .0) ∙ l .1)) (b t m);
       }
 
-  pub different-other : kind x ≡ false → Different kind (us ++ (x ∷ [])) ds
+  different-other : kind x ≡ false → Different kind (us ++ (x ∷ [])) ds
   different-other p = grown ds (h .once) (λ t m. m) (λ q. absurd (true≢false (sym q ∙ p))) (λ t m. inl m)
 
-  pub different-more : kind x ≡ true → Different kind (us ++ (x ∷ [])) (added ds x)
+  different-more : kind x ≡ true → Different kind (us ++ (x ∷ [])) (added ds x)
   different-more p =
       grown (added ds x) (added-once ds x (h .once)) (λ t m. has-member t (added ds x) (added-still ds x t (member-has t ds m)))
       (λ q. has-member x (added ds x) (added-has ds x))

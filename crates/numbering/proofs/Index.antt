@@ -13,7 +13,7 @@ use Rattle.numbering.specs.Index.{fromOf, toOf, tokenOf, tokenAt, number
 use Rattle.numbering.proofs.Weights.{weight-injective}
 use Rattle.ordered.proofs.Rising.{lighter}
 
-pub bytes-part : (input : List ℕ) (from to : ℕ) → Bytes input → Bytes (part input from to)
+bytes-part : (input : List ℕ) (from to : ℕ) → Bytes input → Bytes (part input from to)
 bytes-part input from to h i = go (decLt i (to - from))
   where
     go : Dec (i < to - from) → getD (part input from to) i 0 < 256
