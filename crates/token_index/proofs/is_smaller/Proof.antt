@@ -1,13 +1,12 @@
 -- `token_index::is_smaller` meets its contract. The loop's invariant: the tokens agree from i on.
 -- Assumes nothing.
-use mathlib.Core.Path.{_≡_, sym, ap, _∙_}
-use Prim.Native.Nat.{ℕ, _-_, _≤_, _<_}
+use mathlib.Core.Path.{_≡_, sym, _∙_}
+use Prim.Native.Nat.{_≤_}
 use native.Mathlib.Omega.{arith}
 use native.Mathlib.Nat.{le-of-lt}
-use lib.ListN.{length, getD, drop, drop-of-length-le}
+use lib.ListN.{length, drop, drop-of-length-le}
 use borrow.Author.Tests.{lt-ltb, le-ltb}
 use denote.Ref.{now}
-use Rattle.numbering.specs.Weights.{weight}
 use Rattle.numbering.proofs.Weights.{decided, agreed, none-before}
 use Rattle.token_index.proofs.is_smaller.Statement.{statement}
 use Rattle.token_index.proofs.is_smaller.Tie as tie
