@@ -1,8 +1,12 @@
 // The facts of an input, gathered (document 02, Point 3).
+use fact_keys::add_key;
+use facts::Fact;
+use imports::Progress;
+use ntriples::Span;
 use numbering::Counts;
 use numbering::Numbered;
 ghost use Rattle.numbering.specs.Index.{Here};
-ghost use Rattle.imports.specs.Collecting.{GivesTerm};
+ghost use Rattle.imports.specs.Collecting.{GivesTerm, Open, Stands, statementAt, Grows};
 
 // A token's number: the vocabulary's own, or that by its first appearance, and then the index has its entry.
 fn term(input: &[u8], from: usize, to: usize, items: &mut [u64], counts: Counts) -> Numbered
@@ -17,4 +21,34 @@ fn term(input: &[u8], from: usize, to: usize, items: &mut [u64], counts: Counts)
         };
     }
     token_index::number(input, from, to, items, counts)
+}
+
+// One statement more, whose tokens stand at these spans behind a place: its tokens in the index, and its fact's key among the keys.
+fn add_statement(
+    input: &[u8],
+    at: usize,
+    subject: Span,
+    predicate: Span,
+    object: Span,
+    items: &mut [u64],
+    keys: &mut [u64],
+    g: Progress,
+) -> Progress
+    requires { ⌜ Open (now input) (now items) (now keys) g × Stands (now input) at subject × Stands (now input) at predicate × Stands (now input) at object ⌝ }
+    ensures { λ r. ⌜ Grows (now (input .entry)) (statementAt (now (input .entry)) at subject predicate object) (now (items .entry)) (now (items .exit)) (now (keys .entry)) (now (keys .exit)) g r ⌝ }
+{
+    let s = term(input, at + subject.from, at + subject.to, items, g.counts);
+    let p = term(input, at + predicate.from, at + predicate.to, items, s.counts);
+    let o = term(input, at + object.from, at + object.to, items, p.counts);
+    let f = Fact {
+        subject: s.number,
+        predicate: p.number,
+        object: o.number,
+    };
+    let n = add_key(keys, g.facts, f);
+    let counts = o.counts;
+    Progress {
+        counts: counts,
+        facts: n,
+    }
 }

@@ -10,6 +10,7 @@ use lib.ListN.{length}
 use Rattle.facts.specs.declared.Fact.{Fact}
 use Rattle.facts.specs.Facts.{fact}
 use Rattle.facts.proofs.Terms.{by-cases}
+use Rattle.ntriples.specs.declared.Span.{Span}
 use Rattle.ntriples.specs.Tokens.{Token, part}
 use Rattle.numbering.specs.declared.Counts.{Counts}
 use Rattle.numbering.specs.declared.Numbered.{Numbered}
@@ -24,7 +25,7 @@ use Rattle.gathering.proofs.Gathered.{with-length, held-or-new}
 use Rattle.imports.specs.declared.Progress.{Progress}
 use Rattle.imports.specs.Lines.{Statement}
 use Rattle.imports.specs.Import.{knownBy, factOf, factsOf}
-use Rattle.imports.specs.Collecting.{Termed, Gathers}
+use Rattle.imports.specs.Collecting.{Termed, Gathers, Stands}
 use Rattle.imports.proofs.Facts.{known-snoc, facts-snoc, fact-held}
 
 -- the number that the vocabulary gives a token, or 0
@@ -88,6 +89,12 @@ termed-other input from to before after c r k h e m =
         kept = subst (Kept input after (r .counts)) (sym w) q;
         more = m .more
       })
+
+-- a token that stands in the input can be entered, where few are
+pub here-of : (input items : List ℕ) (c : Counts) (k : Known) (at : ℕ) (s : Span) → length input ≤ 65536 → length items ≡ 3075 → entries c ≤ 3074 → Kept input items c k → Stands input at s
+    → Here input (at + s .from) (at + s .to) items c
+here-of input items c k at s few room less q h =
+    record { some = omega (arith, h .some); within = h .within; few = few; ordered = q .ordered; room = omega arith; most = omega arith }
 
 -- ---- one statement more
 
