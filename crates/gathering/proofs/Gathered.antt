@@ -16,6 +16,36 @@ use Rattle.facts.proofs.Facts.{before-irreflexive, before-transitive, before-to
 use Rattle.table.specs.Tables.{ascending}
 use Rattle.gathering.specs.Gathered.{with, gatheredWith}
 
+-- ---- the order
+
+tail-ascends : (g : Fact) (gs : List Fact) → T (ascending (g ∷ gs)) → T (ascending gs)
+unfolding ascending
+tail-ascends g [] a = tt
+tail-ascends g (h ∷ gs) a = and-yes (before g h) (ascending (h ∷ gs)) a .1
+
+pub with-ascends : (f : Fact) (gs : List Fact) → T (ascending gs) → T (ascending (with f gs))
+unfolding with ascending
+with-ascends f [] a = tt
+with-ascends f (g ∷ gs) a =
+    by-cases (before f g) (λ p. rw p (yes-and (before f g) (ascending (g ∷ gs)) (T-of (before f g) p) a))
+    (λ p. by-cases (before g f) (λ q. rw (p, q) (join g f gs (T-of (before g f) q) a (with-ascends f gs (tail-ascends g gs a)))) (λ q. rw (p, q) a))
+  where
+    join : (g f : Fact) (gs : List Fact) → T (before g f) → T (ascending (g ∷ gs)) → T (ascending (with f gs)) → T (ascending (g ∷ with f gs))
+    join g f [] b a w = yes-and (before g f) true b tt
+    join g f (h ∷ gs) b a w =
+        by-cases (before f h)
+        (λ p. rw p (yes-and (before g f) (ascending (f ∷ h ∷ gs)) b (rw p at w)))
+        (λ p. by-cases (before h f)
+        (λ q. rw (p, q) (yes-and (before g h) (ascending (h ∷ with f gs)) (and-yes (before g h) (ascending (h ∷ gs)) a .0) (rw (p, q) at w)))
+        (λ q. rw (p, q) a))
+
+pub gathered-ascends : (gs fs : List Fact) → T (ascending gs) → T (ascending (gatheredWith gs fs))
+unfolding gatheredWith
+gathered-ascends gs [] a = a
+gathered-ascends gs (f ∷ fs) a = gathered-ascends (with f gs) fs (with-ascends f gs a)
+
+-- ---- the members
+
 -- neither before nor behind: the same
 same-fact : (f g : Fact) → before f g ≡ false → before g f ≡ false → f ≡ g
 same-fact f g p q =
@@ -46,36 +76,6 @@ with-only f x (g ∷ gs) m =
     (λ p. by-cases (before g f)
     (λ q. ⊎-elim (λ (e : x ≡ g). inr (List·Memᴰ·head e)) (λ (l : List·Memᴰ x (with f gs)). ⊎-elim (λ (e : x ≡ f). inl e) (λ (r : List·Memᴰ x gs). inr (List·Memᴰ·tail r)) (with-only f x gs l)) (List·Memᴰ·cases-cons (rw (p, q) at m)))
     (λ q. inr (rw (p, q) at m)))
-
--- ---- the order
-
-tail-ascends : (g : Fact) (gs : List Fact) → T (ascending (g ∷ gs)) → T (ascending gs)
-unfolding ascending
-tail-ascends g [] a = tt
-tail-ascends g (h ∷ gs) a = and-yes (before g h) (ascending (h ∷ gs)) a .1
-
-pub with-ascends : (f : Fact) (gs : List Fact) → T (ascending gs) → T (ascending (with f gs))
-unfolding with ascending
-with-ascends f [] a = tt
-with-ascends f (g ∷ gs) a =
-    by-cases (before f g) (λ p. rw p (yes-and (before f g) (ascending (g ∷ gs)) (T-of (before f g) p) a))
-    (λ p. by-cases (before g f) (λ q. rw (p, q) (join g f gs (T-of (before g f) q) a (with-ascends f gs (tail-ascends g gs a)))) (λ q. rw (p, q) a))
-  where
-    join : (g f : Fact) (gs : List Fact) → T (before g f) → T (ascending (g ∷ gs)) → T (ascending (with f gs)) → T (ascending (g ∷ with f gs))
-    join g f [] b a w = yes-and (before g f) true b tt
-    join g f (h ∷ gs) b a w =
-        by-cases (before f h)
-        (λ p. rw p (yes-and (before g f) (ascending (f ∷ h ∷ gs)) b (rw p at w)))
-        (λ p. by-cases (before h f)
-        (λ q. rw (p, q) (yes-and (before g h) (ascending (h ∷ with f gs)) (and-yes (before g h) (ascending (h ∷ gs)) a .0) (rw (p, q) at w)))
-        (λ q. rw (p, q) a))
-
-pub gathered-ascends : (gs fs : List Fact) → T (ascending gs) → T (ascending (gatheredWith gs fs))
-unfolding gatheredWith
-gathered-ascends gs [] a = a
-gathered-ascends gs (f ∷ fs) a = gathered-ascends (with f gs) fs (with-ascends f gs a)
-
--- ---- the members
 
 pub gathered-only : (x : Fact) (gs fs : List Fact) → List·Memᴰ x (gatheredWith gs fs) → List·Memᴰ x gs ⊎ List·Memᴰ x fs
 unfolding gatheredWith
