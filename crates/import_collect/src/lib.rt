@@ -2,10 +2,17 @@
 use fact_keys::add_key;
 use facts::Fact;
 use imports::Progress;
+use line_parser::parse;
+use ntriples::Line;
 use ntriples::Span;
 use numbering::Counts;
 use numbering::Numbered;
+ghost use mathlib.Core.List.{[], _∷_};
+ghost use Prim.Native.Nat.{_≤_};
+ghost use lib.ListN.{length};
+ghost use Rattle.ntriples.specs.Tokens.{part};
 ghost use Rattle.numbering.specs.Index.{Here};
+ghost use Rattle.imports.specs.Lines.{said};
 ghost use Rattle.imports.specs.Collecting.{GivesTerm, Open, Stands, statementAt, Grows};
 
 // A token's number: the vocabulary's own, or that by its first appearance, and then the index has its entry.
@@ -35,7 +42,7 @@ fn add_statement(
     g: Progress,
 ) -> Progress
     requires { ⌜ Open (now input) (now items) (now keys) g × Stands (now input) at subject × Stands (now input) at predicate × Stands (now input) at object ⌝ }
-    ensures { λ r. ⌜ Grows (now (input .entry)) (statementAt (now (input .entry)) at subject predicate object) (now (items .entry)) (now (items .exit)) (now (keys .entry)) (now (keys .exit)) g r ⌝ }
+    ensures { λ r. ⌜ Grows (now (input .entry)) (statementAt (now (input .entry)) at subject predicate object ∷ []) (now (items .entry)) (now (items .exit)) (now (keys .entry)) (now (keys .exit)) g r ⌝ }
 {
     let s = term(input, at + subject.from, at + subject.to, items, g.counts);
     let p = term(input, at + predicate.from, at + predicate.to, items, s.counts);
@@ -50,5 +57,20 @@ fn add_statement(
     Progress {
         counts: counts,
         facts: n,
+    }
+}
+
+// The statement of a line, if it makes one.
+fn add_line(input: &[u8], at: usize, end: usize, items: &mut [u64], keys: &mut [u64], g: Progress) -> Progress
+    requires { ⌜ Open (now input) (now items) (now keys) g × (at ≤ end) × (end ≤ length (now input)) ⌝ }
+    ensures { λ r. ⌜ Grows (now (input .entry)) (said (part (now (input .entry)) at end)) (now (items .entry)) (now (items .exit)) (now (keys .entry)) (now (keys .exit)) g r ⌝ }
+{
+    match parse(&input[at..end]) {
+        Line::Outside => g,
+        Line::Unknown => g,
+        Line::Nothing => g,
+        Line::Triple { subject, predicate, object } => {
+            add_statement(input, at, subject, predicate, object, items, keys, g)
+        }
     }
 }

@@ -3,15 +3,20 @@
 use mathlib.Core.Path.{_≡_, refl, sym, ap, subst, _∙_}
 use mathlib.Core.Logic.{_⊎_, inl, inr, ⊎-elim}
 use mathlib.Core.Bool.{Bool, true, false, cond}
-use mathlib.Core.List.{List, [], _∷_, _++_, List·Memᴰ}
-use Prim.Native.Nat.{ℕ, suc, _+_, _*_, _≤_, _<_}
+use mathlib.Core.List.{List, [], _∷_, _++_, append-nil, List·Memᴰ}
+use Prim.Native.Nat.{ℕ, zero, suc, _+_, _-_, _*_, _≤_, _<_}
 use native.Mathlib.Omega.{arith}
-use lib.ListN.{length}
+use lib.ListN.{length, take, drop, length-drop}
+use lib.Seq.{length-take-le, take-take, drop-drop}
 use Rattle.facts.specs.declared.Fact.{Fact}
 use Rattle.facts.specs.Facts.{fact}
 use Rattle.facts.proofs.Terms.{by-cases}
 use Rattle.ntriples.specs.declared.Span.{Span}
-use Rattle.ntriples.specs.Tokens.{Token, part}
+use Rattle.ntriples.specs.declared.Line.{Line}
+use Rattle.ntriples.specs.declared.Line.the-variants.{Triple}
+use Rattle.ntriples.specs.Tokens.{Token, part, spanned}
+use Rattle.ntriples.specs.Lexed.{lineOf}
+use Rattle.ntriples.proofs.Spans.{triple-spans}
 use Rattle.numbering.specs.declared.Counts.{Counts}
 use Rattle.numbering.specs.declared.Numbered.{Numbered}
 use Rattle.numbering.specs.Numbering.{has, place, isLiteral, Known, withToken, numberIn}
@@ -23,9 +28,9 @@ use Rattle.gathering.specs.Gathered.{with}
 use Rattle.gathering.specs.Keys.{Narrow, Holds, AddsTo}
 use Rattle.gathering.proofs.Gathered.{with-length, held-or-new}
 use Rattle.imports.specs.declared.Progress.{Progress}
-use Rattle.imports.specs.Lines.{Statement}
+use Rattle.imports.specs.Lines.{Statement, saidBy, said}
 use Rattle.imports.specs.Import.{knownBy, factOf, factsOf}
-use Rattle.imports.specs.Collecting.{Termed, Gathers, Stands}
+use Rattle.imports.specs.Collecting.{Termed, Gathers, Stands, tokenAt, statementAt}
 use Rattle.imports.proofs.Facts.{known-snoc, facts-snoc, fact-held}
 
 -- the number that the vocabulary gives a token, or 0
@@ -154,3 +159,43 @@ gathers-more input items items′ keys keys′ g c n done s f q few size t more 
       places = a .size ∙ q .places;
       tokens = rw (a .held .count, x) l
     }
+
+-- ---- one line more
+
+-- a part of a part
+cut-front : (f m n : ℕ) (l : List ℕ) → n ≡ f + m → drop f (take n l) ≡ take m (drop f l)
+cut-front zero m n l e = let k : n ≡ m = omega arith in rw k refl
+cut-front (suc f) m zero l e = absurd (omega arith)
+cut-front (suc f) zero (suc n) [] e = refl
+cut-front (suc f) (suc m) (suc n) [] e = refl
+cut-front (suc f) m (suc n) (x ∷ l) e = cut-front f m n l (omega arith)
+
+part-part : (s : List ℕ) (at end from to : ℕ) → from ≤ to → to ≤ end - at → part (part s at end) from to ≡ part s (at + from) (at + to)
+part-part s at end from to h g =
+    let e : at + to - (at + from) ≡ to - from = omega arith in
+    ap (take (to - from)) (cut-front from (end - at - from) (end - at) (drop at s) (omega arith) ∙ ap (take (end - at - from)) (drop-drop from at s))
+    ∙ take-take (to - from) (end - at - from) (drop (at + from) s) (omega arith)
+    ∙ ap (λ (x : ℕ). take x (drop (at + from) s)) (sym e)
+
+-- the statement that a line of the input makes stands at its spans behind the line's place
+pub line-said : (input : List ℕ) (at end : ℕ) (a b c : Span) → at ≤ end → end ≤ length input → lineOf (part input at end) ≡ Triple a b c
+    → (said (part input at end) ≡ statementAt input at a b c ∷ []) × Stands input at a × Stands input at b × Stands input at c
+unfolding saidBy
+line-said input at end a b c h g e =
+    let l = part input at end in
+    let s = triple-spans l a b c e in
+    let n : length l ≡ end - at = length-take-le (end - at) (drop at input) (omega (arith, length-drop at input)) in
+    let x : spanned l a ≡ tokenAt input at a = part-part input at end (a .from) (a .to) (omega (arith, s .subject)) (omega (arith, s .subject-predicate, s .predicate, s .predicate-object, s .object, s .inside)) in
+    let y : spanned l b ≡ tokenAt input at b = part-part input at end (b .from) (b .to) (omega (arith, s .predicate)) (omega (arith, s .predicate-object, s .object, s .inside)) in
+    let z : spanned l c ≡ tokenAt input at c = part-part input at end (c .from) (c .to) (omega (arith, s .object)) (omega (arith, s .inside)) in
+    (
+      ap (saidBy l) e ∙ rw (x, y, z) refl,
+      record { some = omega (arith, s .subject); within = omega (arith, s .subject-predicate, s .predicate, s .predicate-object, s .object, s .inside) },
+      record { some = omega (arith, s .predicate); within = omega (arith, s .predicate-object, s .object, s .inside) },
+      record { some = omega (arith, s .object); within = omega (arith, s .inside) }
+    )
+
+-- and a line that makes none adds nothing
+pub line-silent : (input items keys : List ℕ) (g : Progress) (done : List Statement) (l : List ℕ) (v : Line) → lineOf l ≡ v → saidBy l v ≡ [] → Gathers input items keys g done
+    → Gathers input items keys g (done ++ said l)
+line-silent input items keys g done l v e n q = subst (Gathers input items keys g) (sym (ap (λ (x : List Statement). done ++ x) (ap (saidBy l) e ∙ n) ∙ append-nil done)) q

@@ -3,7 +3,7 @@
 use mathlib.Core.Path.{_≡_}
 use mathlib.Core.List.{List, [], _∷_, _++_}
 use Prim.Native.Nat.{ℕ, _+_, _*_, _≤_, _<_}
-use lib.ListN.{length}
+use lib.ListN.{length, drop}
 use Rattle.ntriples.specs.declared.Span.{Span}
 use Rattle.ntriples.specs.Tokens.{Token, part}
 use Rattle.numbering.specs.declared.Counts.{Counts}
@@ -13,7 +13,7 @@ use Rattle.numbering.specs.Vocabulary.{termOf, withTerm}
 use Rattle.numbering.specs.Index.{entries, Kept}
 use Rattle.gathering.specs.Keys.{Holds}
 use Rattle.imports.specs.declared.Progress.{Progress}
-use Rattle.imports.specs.Lines.{Statement}
+use Rattle.imports.specs.Lines.{linesOf, Statement, statements}
 use Rattle.imports.specs.Import.{knownBy, factsOf}
 
 -- after a token, which stands from one place to another: its number, and the index with it
@@ -54,9 +54,16 @@ tokenAt input at s = part input (at + s .from) (at + s .to)
 abbrev pub statementAt : List ℕ → ℕ → Span → Span → Span → Statement
 statementAt input at s p o = record { subject = tokenAt input at s; predicate = tokenAt input at p; object = tokenAt input at o }
 
--- a statement is gathered, whatever was gathered before it
-abbrev pub Grows : List ℕ → Statement → List ℕ → List ℕ → List ℕ → List ℕ → Progress → Progress → Type 0
-Grows input s items items′ keys keys′ g r = (done : List Statement) → Gathers input items keys g done → Gathers input items′ keys′ r (done ++ (s ∷ []))
+-- some statements are gathered, whatever was gathered before them
+abbrev pub Grows : List ℕ → List Statement → List ℕ → List ℕ → List ℕ → List ℕ → Progress → Progress → Type 0
+Grows input ss items items′ keys keys′ g r = (done : List Statement) → Gathers input items keys g done → Gathers input items′ keys′ r (done ++ ss)
+
+-- the statements of an input are gathered up to a place, with room for a fact more
+pub record Underway (input items keys : List ℕ) (g : Progress) (at : ℕ) : Type 0 where
+  pub done : List Statement
+  pub behind : statements (linesOf input) ≡ done ++ statements (linesOf (drop at input))
+  pub gathers : Gathers input items keys g done
+  pub more : g .facts ≤ 1024
 
 -- what is collected from an input's statements: the keys of their facts, or more than 1,024
 pub record Collected (ss : List Statement) (keys : List ℕ) (r : ℕ) : Type 0 where
