@@ -195,7 +195,11 @@ line-said input at end a b c h g e =
       record { some = omega (arith, s .object); within = omega (arith, s .inside) }
     )
 
+-- the same statements, gathered
+pub gathers-as : {input items keys : List ℕ} {g : Progress} (done : List Statement) {ss us : List Statement} → ss ≡ us → Gathers input items keys g (done ++ us) → Gathers input items keys g (done ++ ss)
+gathers-as {input} {items} {keys} {g} done e q = subst (λ (x : List Statement). Gathers input items keys g (done ++ x)) (sym e) q
+
 -- and a line that makes none adds nothing
 pub line-silent : (input items keys : List ℕ) (g : Progress) (done : List Statement) (l : List ℕ) (v : Line) → lineOf l ≡ v → saidBy l v ≡ [] → Gathers input items keys g done
     → Gathers input items keys g (done ++ said l)
-line-silent input items keys g done l v e n q = subst (Gathers input items keys g) (sym (ap (λ (x : List Statement). done ++ x) (ap (saidBy l) e ∙ n) ∙ append-nil done)) q
+line-silent input items keys g done l v e n q = gathers-as done (ap (saidBy l) e ∙ n) (subst (Gathers input items keys g) (sym (append-nil done)) q)

@@ -1,70 +1,75 @@
+-- `import_collect::add_line` meets its contract: what the line says is gathered.
+-- Assumes nothing.
+use mathlib.Core.Path.{refl, sym, _∙_}
 use borrow.Author.Needs.{needs}
+use denote.Ref.{now}
+use Rattle.ntriples.specs.Tokens.{part}
+use Rattle.imports.specs.Lines.{saidBy}
+use Rattle.imports.proofs.Collecting.{line-said, gathers-as, line-silent}
 use Rattle.import_collect.proofs.add_line.Statement.{statement}
 use Rattle.import_collect.proofs.add_line.Tie as tie
-use Rattle.import_collect.proofs.add_line.Reads as reads
-use Rattle.import_collect.proofs.add_line.Lts as lts
-use Rattle.import_collect.proofs.add_statement.Reads as add-statement-reads
-use Rattle.line_parser.proofs.parse.Reads as parse-reads
 
--- src/lib.rt:68:17
 sub-parse : tie.Need-sub-parse
 sub-parse c = search needs
 
--- src/lib.rt:68:17
 part-parse-start : tie.Need-part-parse-start
 part-parse-start c = search needs
 
--- src/lib.rt:68:17
 part-parse-end : tie.Need-part-parse-end
 part-parse-end c = search needs
 
--- src/lib.rt:68:11
 parse-requires : tie.Need-parse-requires
 parse-requires c κs = search needs
 
--- src/lib.rt:69:26
 enum-told : tie.Need-enum-told
 enum-told c = search needs
 
--- src/lib.rt:70:26
 enum-told-2 : tie.Need-enum-told-2
 enum-told-2 c = search needs
 
--- src/lib.rt:71:26
 enum-told-3 : tie.Need-enum-told-3
 enum-told-3 c = search needs
 
--- src/lib.rt:72:24
 enum-known-subject : tie.Need-enum-known-subject
 enum-known-subject c = search needs
 
--- src/lib.rt:73:13
 add-statement-requires : tie.Need-add-statement-requires
-add-statement-requires c κs = ?
+add-statement-requires c κs =
+    let s = c .before .before .before .before .before .before .before .before .before .before in
+    let v = c .before .before .before .subject .given in
+    let h = line-said (now (s .args .input)) (s .args .at) (s .args .end) (v .0 .0) (v .0 .1 .0) (v .0 .1 .1 .0) (s .pre .1) (s .pre .2) (sym (c .before .before .before .before .before .parse .ensures) ∙ v .1) in
+    (s .pre .0, h .1, h .2, h .3)
 
--- src/lib.rt:64:1
 returns : tie.Need-returns
-returns c = ?
+unfolding saidBy
+returns c done q =
+    let s = c .before .before .before .before .before .before .before in
+    line-silent (now (s .args .input)) (now (s .args .items)) (now (s .args .keys)) (s .args .g) done (part (now (s .args .input)) (s .args .at) (s .args .end)) _ (sym (c .before .before .parse .ensures) ∙ c .enum-told .given .1) refl q
 
--- src/lib.rt:64:1
 returns-2 : tie.Need-returns-2
-returns-2 c = ?
+unfolding saidBy
+returns-2 c done q =
+    let s = c .before .before .before .before .before .before .before in
+    line-silent (now (s .args .input)) (now (s .args .items)) (now (s .args .keys)) (s .args .g) done (part (now (s .args .input)) (s .args .at) (s .args .end)) _ (sym (c .before .before .parse .ensures) ∙ c .enum-told2 .given .1) refl q
 
--- src/lib.rt:64:1
 returns-3 : tie.Need-returns-3
-returns-3 c = ?
+unfolding saidBy
+returns-3 c done q =
+    let s = c .before .before .before .before .before .before .before in
+    line-silent (now (s .args .input)) (now (s .args .items)) (now (s .args .keys)) (s .args .g) done (part (now (s .args .input)) (s .args .at) (s .args .end)) _ (sym (c .before .before .parse .ensures) ∙ c .enum-told3 .given .1) refl q
 
--- src/lib.rt:64:1
 same-length : tie.Need-same-length
 same-length c = search needs
 
--- src/lib.rt:64:1
 same-length-2 : tie.Need-same-length-2
 same-length-2 c = search needs
 
--- src/lib.rt:64:1
 returns-4 : tie.Need-returns-4
-returns-4 c = ?
+returns-4 c done q =
+    let s = c .before .before .before .before .before .before .before .before .before .before .before .before .before .before .before in
+    let v = c .before .before .before .before .before .before .before .before .subject .given in
+    let h = line-said (now (s .args .input)) (s .args .at) (s .args .end) (v .0 .0) (v .0 .1 .0) (v .0 .1 .1 .0) (s .pre .1) (s .pre .2) (sym (c .before .before .before .before .before .before .before .before .before .before .parse .ensures) ∙ v .1) in
+    gathers-as done (h .0) (c .before .before .before .before .add-statement .ensures done q)
 
 pub add-line-spec : {M : Type 1} → statement M
 add-line-spec =
