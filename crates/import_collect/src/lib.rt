@@ -2,18 +2,23 @@
 use fact_keys::add_key;
 use facts::Fact;
 use imports::Progress;
+use input_lines::line_end;
 use line_parser::parse;
 use ntriples::Line;
 use ntriples::Span;
 use numbering::Counts;
 use numbering::Numbered;
-ghost use mathlib.Core.List.{[], _∷_};
+ghost use mathlib.Core.Path.{_≡_};
+ghost use mathlib.Core.List.{[], _∷_, replicate};
 ghost use Prim.Native.Nat.{_≤_};
 ghost use lib.ListN.{length};
 ghost use Rattle.ntriples.specs.Tokens.{part};
 ghost use Rattle.numbering.specs.Index.{Here};
-ghost use Rattle.imports.specs.Lines.{said};
-ghost use Rattle.imports.specs.Collecting.{GivesTerm, Open, Stands, statementAt, Grows};
+ghost use Rattle.imports.specs.Lines.{linesOf, said, statements};
+ghost use Rattle.imports.specs.Collecting.{GivesTerm, Open, Stands, statementAt, Grows, begun, Collected};
+
+// More facts than a table holds.
+const CROWD: usize = 1025;
 
 // A token's number: the vocabulary's own, or that by its first appearance, and then the index has its entry.
 fn term(input: &[u8], from: usize, to: usize, items: &mut [u64], counts: Counts) -> Numbered
@@ -73,4 +78,44 @@ fn add_line(input: &[u8], at: usize, end: usize, items: &mut [u64], keys: &mut [
             add_statement(input, at, subject, predicate, object, items, keys, g)
         }
     }
+}
+
+// An index with no entry: three for each of 1,025 facts.
+fn no_items() -> [u64; 3075]
+    ensures { λ r. ⌜ r ≡ replicate 3075 0 ⌝ }
+{
+    [0u64; 3075]
+}
+
+// Nothing gathered yet.
+fn nothing() -> Progress
+    ensures { λ r. ⌜ r ≡ begun ⌝ }
+{
+    let counts = Counts {
+        names: 0,
+        literals: 0,
+    };
+    Progress {
+        counts: counts,
+        facts: 0,
+    }
+}
+
+// Puts the keys of an input's facts into the front of a row, up to the 1,025th. Their number.
+pub fn collect(input: &[u8], keys: &mut [u64]) -> usize
+    requires { ⌜ (length (now input) ≤ 65536) × (length (now keys) ≡ 1025) ⌝ }
+    ensures { λ r. ⌜ Collected (statements (linesOf (now (input .entry)))) (now (keys .exit)) r ⌝ }
+{
+    let mut items = no_items();
+    let mut g = nothing();
+    let mut at = 0;
+    while at < input.len() {
+        let end = line_end(input, at);
+        g = add_line(input, at, end, &mut items, keys, g);
+        if g.facts == CROWD {
+            return CROWD;
+        }
+        at = end + 1;
+    }
+    g.facts
 }

@@ -36,6 +36,10 @@ pub record Gathers (input items keys : List ℕ) (g : Progress) (done : List Sta
   pub places : length keys ≡ 1025
   pub tokens : entries (g .counts) ≤ 3 * g .facts
 
+-- nothing gathered yet
+abbrev pub begun : Progress
+begun = record { counts = record { names = 0; literals = 0 }; facts = 0 }
+
 -- some statements are gathered, and there is room for a fact more
 pub record Open (input items keys : List ℕ) (g : Progress) : Type 0 where
   pub done : List Statement
