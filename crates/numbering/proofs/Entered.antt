@@ -11,6 +11,7 @@ use native.Mathlib.Decide.{decLt}
 use lib.ListN.{length, getD, take, drop}
 use lib.Seq.{getD-take, getD-drop}
 use lib.Dec.{eqb}
+use Rattle.facts.proofs.Terms.{by-cases}
 use Rattle.ntriples.specs.Tokens.{Token, part}
 use Rattle.numbering.specs.declared.Counts.{Counts}
 use Rattle.numbering.specs.declared.Numbered.{Numbered}
@@ -19,7 +20,7 @@ use Rattle.ordered.specs.Inserted.{inserted}
 use Rattle.numbering.specs.Numbering.{isLiteral, Known, withToken, knows, numberIn}
 use Rattle.numbering.specs.Index.{entry, fromOf, toOf, numberOf, tokenOf, tokenAt, entries, nextOf, Whole, Ordered, Held, Missing, Kept, Here, Entered}
 use Rattle.ordered.proofs.Inserted.{here, each, still, rises, inserted-length}
-use Rattle.numbering.proofs.Numbering.{by-cases, known-kept, known-new, known-still, known-more, new-literal, new-name}
+use Rattle.numbering.proofs.Numbering.{known-kept, known-new, known-still, known-more, new-literal, new-name}
 
 pub entered-found : (input before : List ℕ) (from to : ℕ) (c : Counts) (v : ℕ) (k : Known) → Kept input before c k
     → Held input before (entries c) (part input from to) v → Entered input from to before before c (record { number = v; counts = c }) k
@@ -38,6 +39,7 @@ unknown input items c k t r q m = by-cases (knows k t) (λ e. absurd (clash e)) 
       where
         i : ℕ
         i = q .all t e .0
+
         go : Dec (i < r) → ⊥
         go (yes p) = let w : weight (tokenAt input items i) ≡ weight t = ap weight (q .all t e .2) in omega (arith, m .below i p)
         go (no p) = let w : weight (tokenAt input items i) ≡ weight t = ap weight (q .all t e .2) in omega (arith, m .above i (omega arith) (q .all t e .1))
@@ -79,9 +81,9 @@ unfolding nextOf
 next-new input items c k t b q e l =
     by-cases (eqb b 34)
     (λ p. let n = new-literal k t (l ∙ p) e in
-      rw p (record { number = sym (n .0 ∙ ap (λ (m : ℕ). 40000 + m) (sym (q .literals))); names = q .names ∙ sym (n .1); literals = ap (λ (m : ℕ). m + 1) (q .literals) ∙ sym (n .2); count = omega arith; most = omega arith }))
+    rw p (record { number = sym (n .0 ∙ ap (λ (m : ℕ). 40000 + m) (sym (q .literals))); names = q .names ∙ sym (n .1); literals = ap (λ (m : ℕ). m + 1) (q .literals) ∙ sym (n .2); count = omega arith; most = omega arith }))
     (λ p. let n = new-name k t (l ∙ p) e in
-      rw p (record { number = sym (n .0 ∙ ap (λ (m : ℕ). 6 + m) (sym (q .names))); names = ap (λ (m : ℕ). m + 1) (q .names) ∙ sym (n .1); literals = q .literals ∙ sym (n .2); count = omega arith; most = omega arith }))
+    rw p (record { number = sym (n .0 ∙ ap (λ (m : ℕ). 6 + m) (sym (q .names))); names = ap (λ (m : ℕ). m + 1) (q .names) ∙ sym (n .1); literals = q .literals ∙ sym (n .2); count = omega arith; most = omega arith }))
 
 module _ (input before : List ℕ) (from to : ℕ) (c : Counts) (h : Here input from to before c) (r : ℕ)
     (m : Missing input before (entries c) (part input from to) r) (k : Known) (q : Kept input before c k) where
@@ -119,7 +121,7 @@ module _ (input before : List ℕ) (from to : ℕ) (c : Counts) (h : Here input 
   whole = each before (entries c) r v fits room (Whole input) (h .ordered .whole)
       (record {
         forward = rw (entry-from input from to (g .number) (omega (arith, h .some, h .within, h .few)) (omega (arith, h .within, h .few)) small, entry-to input from to (g .number) (omega (arith, h .some, h .within, h .few)) (omega (arith, h .within, h .few)) small) (omega (arith, h .some));
-        within = rw (entry-to input from to (g .number) (omega (arith, h .some, h .within, h .few)) (omega (arith, h .within, h .few)) small) (h .within)
+        within = rw (entry-to input from to (g .number) (omega (arith, h .some, h .within, h .few)) (omega (arith, h .within, h .few)) small) (h .within);
       })
 
   rising : (i : ℕ) → suc i < suc (entries c) → weight (tokenAt input after i) < weight (tokenAt input after (suc i))
@@ -157,15 +159,15 @@ module _ (input before : List ℕ) (from to : ℕ) (c : Counts) (h : Here input 
       record {
         number = new .number;
         kept =
-          record {
-            names = new .names;
-            literals = new .literals;
-            ordered = rw (new .count) (record { room = omega (arith, inserted-length before (entries c) r v fits room, room); whole = whole; rising = rising });
-            known = rw (new .count) known;
-            number = rw (new .count) number;
-            all = rw (new .count) all
-          };
-        more = omega (arith, new .count)
+            record {
+              names = new .names;
+              literals = new .literals;
+              ordered = rw (new .count) (record { room = omega (arith, inserted-length before (entries c) r v fits room, room); whole = whole; rising = rising });
+              known = rw (new .count) known;
+              number = rw (new .count) number;
+              all = rw (new .count) all;
+            };
+        more = omega (arith, new .count);
       }
 
 pub next-most : (c : Counts) (b : ℕ) → entries c < 4096 → nextOf c b .number < 65536

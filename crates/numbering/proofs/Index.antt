@@ -46,5 +46,5 @@ module _ (input items : List ℕ) (n : ℕ) (t : Token) (r : ℕ) (o : Ordered i
         at = r;
         within = h;
         token = weight-injective (tokenAt input items r) t (bytes-token input (getD items r 0) b) d (omega (arith, c .above r (omega arith) h));
-        number = refl
+        number = refl;
       }

@@ -3,3 +3,4 @@ pub mod Index
 pub mod Numbering
 pub mod Vocabulary
 pub mod Entered
+pub mod Terms

@@ -29,7 +29,10 @@ pub fn vocabulary_of(token: &[u8]) -> u32
     if is_same(token, b"<http://www.w3.org/2000/01/rdf-schema#subClassOf>") {
         return 1;
     }
-    if is_same(token, b"<http://www.w3.org/2000/01/rdf-schema#subPropertyOf>") {
+    if is_same(
+        token,
+        b"<http://www.w3.org/2000/01/rdf-schema#subPropertyOf>",
+    ) {
         return 2;
     }
     if is_same(token, b"<http://www.w3.org/2000/01/rdf-schema#domain>") {
