@@ -53,10 +53,7 @@ fn from_object(s: &[u8], subject: Span, predicate: Span, at: usize) -> Line
     if (byte_at(s, subject.from) == UNDERSCORE) | (byte_at(s, at) == UNDERSCORE) {
         return Line::Unknown;
     }
-    let object = Span {
-        from: at,
-        to: to,
-    };
+    let object = Span { from: at, to: to };
     Line::Triple {
         subject: subject,
         predicate: predicate,
@@ -72,10 +69,7 @@ fn from_predicate(s: &[u8], subject: Span, at: usize) -> Line
     if to == 0 {
         return Line::Outside;
     }
-    let predicate = Span {
-        from: at,
-        to: to,
-    };
+    let predicate = Span { from: at, to: to };
     from_object(s, subject, predicate, run_end(Class::White, s, to))
 }
 
@@ -87,10 +81,7 @@ fn from_subject(s: &[u8], at: usize) -> Line
     if to == 0 {
         return Line::Outside;
     }
-    let subject = Span {
-        from: at,
-        to: to,
-    };
+    let subject = Span { from: at, to: to };
     from_predicate(s, subject, run_end(Class::White, s, to))
 }
 

@@ -1,0 +1,62 @@
+-- Literals, both ways.
+-- Assumes nothing.
+use mathlib.Core.Path.{_≡_, refl, sym, ap, _∙_}
+use mathlib.Core.Logic.{_⊎_, inl, inr}
+use mathlib.Core.List.{List}
+use Prim.Native.Nat.{ℕ, _+_}
+use native.Mathlib.Omega.{arith}
+use lib.Dec.{eqb}
+use borrow.Author.Tests.{eqb-true, eqb-false}
+use Rattle.facts.proofs.Terms.{by-cases}
+use Rattle.ntriples.specs.declared.Class.the-variants.{Quoted}
+use Rattle.ntriples.specs.Grammar.{Grammar, byte, then, or, Of, iri, tag, quoted, datatype, literal, perhaps}
+use Rattle.ntriples.specs.Lexed.{byteAt, runEnd, iriEnd, tagEnd, suffixEnd, literalEnd}
+use Rattle.ntriples.proofs.Lexed.{suffix-tag, suffix-none, suffix-half, suffix-type, literal-unopened, literal-unclosed, literal-some}
+use Rattle.ntriples.proofs.Stands.{Stands, stands-nothing, stands-byte, stands-then, stands-as, then-stands, byte-then}
+use Rattle.ntriples.proofs.Runs.{enclosed-read, enclosed-found, iri-read, iri-found}
+use Rattle.ntriples.proofs.Tags.{tag-read}
+
+abbrev suffix : Grammar
+suffix = perhaps (or datatype tag)
+
+type-read : (s : List ℕ) (at : ℕ) → byteAt s at ≡ 94 → byteAt s (at + 1) ≡ 94 → (iriEnd s (at + 2) ≡ 0 → ⊥) → Stands datatype s at (iriEnd s (at + 2))
+unfolding datatype
+type-read s at o c h =
+    let two : at + 1 + 1 ≡ at + 2 = omega arith in
+    stands-then (stands-byte s at 94 o (omega arith)) (stands-then (stands-byte s (at + 1) 94 c (omega arith)) (rw two (iri-read s (at + 2) h)))
+
+suffix-read : (s : List ℕ) (at : ℕ) → (suffixEnd s at ≡ 0 → ⊥) → Stands suffix s at (suffixEnd s at)
+unfolding Of tag
+suffix-read s at h =
+    by-cases (eqb (byteAt s at) 64)
+    (λ p.
+    let o = eqb-true (byteAt s at) 64 p in
+    let e = suffix-tag s at o in
+    rw e (stands-as (λ t x. inr (inr x)) (stands-then (stands-byte s at 64 o (omega arith)) (tag-read s (at + 1) (λ z. h (e ∙ z))))))
+    (λ p.
+    let n = eqb-false (byteAt s at) 64 p in
+    by-cases (eqb (byteAt s at) 94)
+    (λ q.
+    let o = eqb-true (byteAt s at) 94 q in
+    by-cases (eqb (byteAt s (at + 1)) 94)
+    (λ r.
+    let c = eqb-true (byteAt s (at + 1)) 94 r in
+    let e = suffix-type s at n o c in
+    rw e (stands-as (λ t x. inr (inl x)) (type-read s at o c (λ z. h (e ∙ z)))))
+    (λ r. absurd (h (suffix-half s at n o (eqb-false (byteAt s (at + 1)) 94 r)))))
+    (λ q. rw (suffix-none s at n (eqb-false (byteAt s at) 94 q)) (stands-as (λ t x. inl x) (stands-nothing s at))))
+
+pub literal-read : (s : List ℕ) (at : ℕ) → (literalEnd s at ≡ 0 → ⊥) → Stands literal s at (literalEnd s at)
+unfolding literal quoted
+literal-read s at h =
+    let e = runEnd Quoted s (at + 1) in
+    by-cases (eqb (byteAt s at) 34)
+    (λ p.
+    let o = eqb-true (byteAt s at) 34 p in
+    by-cases (eqb (byteAt s e) 34)
+    (λ q.
+    let c = eqb-true (byteAt s e) 34 q in
+    let l = literal-some s at o c in
+    rw l (stands-then (enclosed-read 34 34 Quoted s at (omega arith) (omega arith) o c) (suffix-read s (e + 1) (λ z. h (l ∙ z)))))
+    (λ q. absurd (h (literal-unclosed s at o (eqb-false (byteAt s e) 34 q)))))
+    (λ p. absurd (h (literal-unopened s at (eqb-false (byteAt s at) 34 p))))
