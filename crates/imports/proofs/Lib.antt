@@ -1,2 +1,5 @@
 pub mod Lines
 pub mod Parted
+pub mod Sizes
+pub mod Judging
+pub mod Samples
