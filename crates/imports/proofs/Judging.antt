@@ -30,7 +30,7 @@ unfolding foundOn orElse
 found-next Sound i later = refl
 found-next (Faulty r) i later = refl
 
-else-clear : (f : Finding) → orElse f Clear ≡ f
+pub else-clear : (f : Finding) → orElse f Clear ≡ f
 unfolding orElse
 else-clear Clear = refl
 else-clear (Fault r place) = refl
