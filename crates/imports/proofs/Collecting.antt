@@ -20,7 +20,7 @@ use Rattle.ntriples.proofs.Spans.{triple-spans}
 use Rattle.numbering.specs.declared.Counts.{Counts}
 use Rattle.numbering.specs.declared.Numbered.{Numbered}
 use Rattle.numbering.specs.Numbering.{has, place, isLiteral, Known, withToken, numberIn}
-use Rattle.numbering.specs.Vocabulary.{vocabulary, termOf, withTerm}
+use Rattle.numbering.specs.Vocabulary.{vocabulary, wordOf, termOf, withTerm}
 use Rattle.numbering.specs.Index.{entries, Kept, Here, Entered}
 use Rattle.numbering.proofs.Numbering.{place-within, known-new}
 use Rattle.numbering.proofs.Terms as terms
@@ -32,10 +32,6 @@ use Rattle.imports.specs.Lines.{Statement, saidBy, said}
 use Rattle.imports.specs.Import.{knownBy, factOf, factsOf}
 use Rattle.imports.specs.Collecting.{Termed, Gathers, Stands, tokenAt, statementAt}
 use Rattle.imports.proofs.Facts.{known-snoc, facts-snoc, fact-held}
-
--- the number that the vocabulary gives a token, or 0
-abbrev fixed : Token → ℕ
-fixed t = cond (has t vocabulary) (1 + place t vocabulary) 0
 
 -- the vocabulary's tokens need no entry, and the others one each
 term-there : (k : Known) (t : Token) → has t vocabulary ≡ true → termOf k t ≡ 1 + place t vocabulary
@@ -51,7 +47,7 @@ unfolding withTerm
 with-else k t p = ap (λ (b : Bool). cond b k (withToken k t)) p
 
 -- a token of the vocabulary has its number, and the index stays
-pub termed-fixed : (input : List ℕ) (from to : ℕ) (items : List ℕ) (c : Counts) (v : ℕ) (k : Known) → Kept input items c k → v ≡ fixed (part input from to) → (v ≡ 0 → ⊥)
+pub termed-fixed : (input : List ℕ) (from to : ℕ) (items : List ℕ) (c : Counts) (v : ℕ) (k : Known) → Kept input items c k → v ≡ wordOf (part input from to) → (v ≡ 0 → ⊥)
     → Termed input from to items c (record { number = v; counts = c }) k
 termed-fixed input from to items c v k q e h =
     let t = part input from to in
@@ -75,7 +71,7 @@ narrow k t n l h =
 
 -- any other gets its number by first appearance
 pub termed-other : (input : List ℕ) (from to : ℕ) (before after : List ℕ) (c : Counts) (r : Numbered) (k : Known) → Here input from to before c
-    → 0 ≡ fixed (part input from to) → Entered input from to before after c r k → Termed input from to after c r k
+    → 0 ≡ wordOf (part input from to) → Entered input from to before after c r k → Termed input from to after c r k
 termed-other input from to before after c r k h e m =
     let t = part input from to in
     by-cases (has t vocabulary)

@@ -6,3 +6,4 @@ pub mod Samples
 pub mod Facts
 pub mod Collecting
 pub mod Underway
+pub mod Imported

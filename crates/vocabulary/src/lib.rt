@@ -1,9 +1,7 @@
 // The numbers of the vocabulary (document 02, Point 3: "The five IRIs of the vocabulary become 1 to 5").
 ghost use mathlib.Core.Path.{_≡_};
-ghost use Prim.Native.Nat.{_+_, _<_};
-ghost use mathlib.Core.Bool.{cond};
-ghost use Rattle.numbering.specs.Numbering.{same, has, place};
-ghost use Rattle.numbering.specs.Vocabulary.{vocabulary};
+ghost use Rattle.numbering.specs.Numbering.{same};
+ghost use Rattle.numbering.specs.Vocabulary.{wordOf};
 
 // Two tokens have the same bytes.
 fn is_same(a: &[u8], b: &[u8]) -> bool
@@ -24,7 +22,7 @@ fn is_same(a: &[u8], b: &[u8]) -> bool
 
 // The number of a term of the vocabulary, 1 to 5, or 0 for any other token.
 pub fn vocabulary_of(token: &[u8]) -> u32
-    ensures { λ r. ⌜ r ≡ cond (has (now (token .entry)) vocabulary) (1 + place (now (token .entry)) vocabulary) 0 ⌝ }
+    ensures { λ r. ⌜ r ≡ wordOf (now (token .entry)) ⌝ }
 {
     if is_same(token, b"<http://www.w3.org/2000/01/rdf-schema#subClassOf>") {
         return 1;
