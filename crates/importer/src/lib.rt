@@ -5,15 +5,15 @@ use fact_keys::spread;
 use import_collect::collect;
 use import_judge::judge;
 use imports::Finding;
+use table::FIELDS;
 use table::PLACES;
 use table::ROW_NUMBERS;
 ghost use mathlib.Core.Path.{_≡_};
-ghost use Prim.Native.Nat.{_*_, _≤_};
+ghost use Prim.Native.Nat.{_≤_};
 ghost use lib.ListN.{length, replicate};
 ghost use Rattle.table.specs.Tables.{tableBytes, Transfers};
-ghost use Rattle.imports.specs.Lines.{linesOf, statements};
-ghost use Rattle.imports.specs.Import.{factsOf, importOf};
-ghost use Rattle.gathering.specs.Keys.{Held};
+ghost use Rattle.imports.specs.Import.{importOf};
+ghost use Rattle.imports.specs.Collecting.{WritesKeys};
 
 // The most bytes of an input.
 const INPUT_MOST: usize = 65536;
@@ -33,12 +33,12 @@ fn no_row() -> [u32; ROW_NUMBERS]
 
 // Writes the table of the facts whose keys these are.
 fn write_keys(keys: &[u64], n: usize, table: &mut [u8]) -> Answer
-    requires { ⌜ Held (now keys) n × (n ≤ 1024) ⌝ }
-    ensures call { λ r. ⌜ Writes (now (keys .entry)) n (now (table .entry)) (now (table .exit)) r ⌝ }
+    requires { ⌜ (n ≤ 1024) × (n ≤ length (now keys)) ⌝ }
+    ensures { λ r. ⌜ WritesKeys (now (keys .entry)) n (now (table .entry)) (now (table .exit)) r ⌝ }
 {
     let mut row = no_row();
     spread(keys, n, &mut row);
-    writer::write(&row[..3 * n], table)
+    writer::write(&row[..FIELDS * n], table)
 }
 
 // Imports N-Triples as a table into lent memory.

@@ -1,31 +1,40 @@
 -- What an input comes to: its refusal, or the table of its facts, which is one that the reader accepts.
 -- Assumes nothing.
-use mathlib.Core.Path.{_≡_, refl, sym, ap, _∙_}
+use mathlib.Core.Path.{_≡_, refl, sym, ap, subst, _∙_}
 use mathlib.Core.Logic.{⊎-elim}
 use mathlib.Core.Bool.{Bool, true, false, cond}
 use mathlib.Core.List.{List, [], _∷_, _++_, map, List·Memᴰ, List·Memᴰ·head, List·Memᴰ·tail, List·Memᴰ·not-nil, List·Memᴰ·cases-cons, List·Memᴰ·append-cases}
-use Prim.Native.Nat.{ℕ, suc, _≤_, _<_}
+use Prim.Native.Nat.{ℕ, suc, _*_, _≤_, _<_}
 use native.Mathlib.Omega.{arith}
-use lib.ListN.{length}
+use native.Mathlib.Decide.{decLt}
+use lib.ListN.{length, take, drop}
+use lib.Seq.{take-append-seam}
 use lib.Dec.{T, leb}
 use mir.Facts.{yes-and}
 use borrow.Author.Tests.{le-leb, lt-leb}
+use Rattle.columns.specs.Lines.{over}
 use Rattle.facts.specs.declared.Fact.{Fact}
 use Rattle.facts.specs.declared.Refusal.{Refusal}
 use Rattle.facts.specs.declared.Refusal.the-variants as refusals
 use Rattle.facts.specs.declared.Verdict.{Verdict}
 use Rattle.facts.specs.declared.Verdict.the-variants.{Sound, Faulty}
+use Rattle.facts.specs.declared.Answer.{Answer}
+use Rattle.facts.specs.declared.Answer.the-variants.{Refused}
 use Rattle.facts.specs.Facts.{wellFormed, faultOf}
 use Rattle.facts.proofs.Facts.{fault-none}
-use Rattle.table.specs.Tables.{Table, accepted, refused, allFormed, ascending, TableFacts}
+use Rattle.table.specs.Tables.{Table, accepted, refused, allFormed, ascending, TableFacts, rowOf, tableBytes, tableOfRow, Transfers}
+use Rattle.table.proofs.Rows.{row-length, settle-refused}
+use Rattle.table.proofs.Tables.{tableOfRow-accepted}
 use Rattle.ntriples.specs.declared.Line.{Line}
 use Rattle.ntriples.specs.declared.Line.the-variants.{Outside, Unknown, Nothing, Triple}
 use Rattle.ntriples.specs.Lexed.{lineOf}
+use Rattle.gathering.specs.Keys.{Holds}
 use Rattle.gathering.proofs.Gathered.{gathered-only, gathered-ascends}
 use Rattle.imports.specs.declared.Finding.{Finding}
 use Rattle.imports.specs.declared.Finding.the-variants.{Clear, Fault}
 use Rattle.imports.specs.Lines.{linesOf, Statement, saidBy, said, statements}
 use Rattle.imports.specs.Import.{knownBy, factOf, factsOf, lineRefusal, factRefusal, foundOn, firstOn, orElse, judgedBy, judged, tabled, importOf}
+use Rattle.imports.specs.Collecting.{Collected}
 use Rattle.imports.proofs.Facts.{in-map}
 
 -- ---- what is found
@@ -137,3 +146,38 @@ module _ (b : List ℕ) where
     unfolding tabled ss
     import-table e n =
         (import-clear e ∙ rw (le-leb (length (factsOf (statements (linesOf b)))) 1024 n) refl, record { formed = clear-formed e; ascends = facts-ascend (statements (linesOf b)); few = n })
+
+-- ---- the call
+
+-- a refusal leaves the memory as it was
+pub refuses : (t : Table) (old : List ℕ) (r : Refusal) (place : ℕ) → t ≡ refused r place → Transfers tableBytes t old old (Refused r place)
+refuses t old r place e = let s = settle-refused tableBytes t old r place e in record { answer = sym (s .0); memory = sym (s .1) }
+
+-- equal tables are written alike
+pub transfers-as : {t u : Table} {entry exit : List ℕ} {a : Answer} → t ≡ u → Transfers tableBytes t entry exit a → Transfers tableBytes u entry exit a
+transfers-as {t} {u} {entry} {exit} {a} e w = subst (λ (x : Table). Transfers tableBytes x entry exit a) e w
+
+-- what is collected, where it is no crowd: all facts, and at most 1,024
+pub collected-all : (ss : List Statement) (keys : List ℕ) (n : ℕ) → Collected ss keys n → n ≤ 1024 → Holds keys n (factsOf ss) × (length (factsOf ss) ≤ 1024)
+collected-all ss keys n c h = go (decLt 1024 (length (factsOf ss)))
+  where
+    go : Dec (1024 < length (factsOf ss)) → Holds keys n (factsOf ss) × (length (factsOf ss) ≤ 1024)
+    go (yes p) = absurd (omega (arith, c .crowd p))
+    go (no p) = let m : length (factsOf ss) ≤ 1024 = omega arith in (c .all m, m)
+
+-- and where it is one, there are more
+pub collected-crowd : (ss : List Statement) (keys : List ℕ) (n : ℕ) → Collected ss keys n → 1024 < n → 1024 < length (factsOf ss)
+collected-crowd ss keys n c h = go (decLt 1024 (length (factsOf ss)))
+  where
+    go : Dec (1024 < length (factsOf ss)) → 1024 < length (factsOf ss)
+    go (yes p) = p
+    go (no p) = absurd (omega (arith, c .all (omega arith) .count))
+
+-- the numbers of a table's facts, written from the front of a row
+pub row-written : (row row′ entry exit : List ℕ) (n : ℕ) (a : Answer) (fs : List Fact) → n ≡ length fs → row′ ≡ over (rowOf fs) row → TableFacts fs
+    → Transfers tableBytes (tableOfRow (take (3 * n) row′)) entry exit a → Transfers tableBytes (accepted fs) entry exit a
+row-written row row′ entry exit n a fs c e t w =
+    let m : length (rowOf fs) ≡ 3 * n = row-length fs ∙ omega arith in
+    let f : take (3 * n) row′ ≡ rowOf fs = ap (take (3 * n)) e ∙ ap (λ (x : ℕ). take x (over (rowOf fs) row)) (sym m) ∙ take-append-seam (rowOf fs) (drop (length (rowOf fs)) row) in
+    let g : tableOfRow (take (3 * n) row′) ≡ accepted fs = tableOfRow-accepted (take (3 * n) row′) fs .1 (f, t) in
+    transfers-as g w

@@ -4,6 +4,9 @@ use mathlib.Core.Path.{_≡_}
 use mathlib.Core.List.{List, [], _∷_, _++_}
 use Prim.Native.Nat.{ℕ, _+_, _*_, _≤_, _<_}
 use lib.ListN.{length, drop}
+use Rattle.facts.specs.declared.Fact.{Fact}
+use Rattle.facts.specs.declared.Answer.{Answer}
+use Rattle.table.specs.Tables.{TableFacts, accepted, tableBytes, Transfers}
 use Rattle.ntriples.specs.declared.Span.{Span}
 use Rattle.ntriples.specs.Tokens.{Token, part}
 use Rattle.numbering.specs.declared.Counts.{Counts}
@@ -73,3 +76,7 @@ pub record Underway (input items keys : List ℕ) (g : Progress) (at : ℕ) : Ty
 pub record Collected (ss : List Statement) (keys : List ℕ) (r : ℕ) : Type 0 where
   pub all : length (factsOf ss) ≤ 1024 → Holds keys r (factsOf ss)
   pub crowd : 1024 < length (factsOf ss) → r ≡ 1025
+
+-- the facts whose keys these are, where they make up a table, are written as one
+abbrev pub WritesKeys : List ℕ → ℕ → List ℕ → List ℕ → Answer → Type 0
+WritesKeys keys n entry exit r = (fs : List Fact) → Holds keys n fs → TableFacts fs → Transfers tableBytes (accepted fs) entry exit r
