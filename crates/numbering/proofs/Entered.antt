@@ -1,14 +1,14 @@
 -- A token is entered: what the index holds then.
 -- Assumes nothing.
-use mathlib.Core.Path.{_≡_, refl, sym, ap, _∙_}
-use mathlib.Core.Logic.{_⊎_, ⊎-elim}
-use mathlib.Core.Bool.{Bool, true, false, cond}
+use mathlib.Core.Path.{_≡_, sym, ap, _∙_}
+use mathlib.Core.Logic.{⊎-elim}
+use mathlib.Core.Bool.{true, false}
 use mathlib.Core.List.{List}
-use Prim.Native.Nat.{ℕ, zero, suc, _+_, _-_, _≤_, _<_}
+use Prim.Native.Nat.{ℕ, suc, _+_, _-_, _≤_, _<_}
 use native.Mathlib.Omega.{arith}
 use native.Mathlib.Nat.{add-zero}
 use native.Mathlib.Decide.{decLt}
-use lib.ListN.{length, getD, take, drop}
+use lib.ListN.{length, getD, drop}
 use lib.Seq.{getD-take, getD-drop}
 use lib.Dec.{eqb}
 use Rattle.facts.proofs.Terms.{by-cases}
@@ -18,7 +18,7 @@ use Rattle.numbering.specs.declared.Numbered.{Numbered}
 use Rattle.numbering.specs.Weights.{weight}
 use Rattle.ordered.specs.Inserted.{inserted}
 use Rattle.numbering.specs.Numbering.{isLiteral, Known, withToken, knows, numberIn}
-use Rattle.numbering.specs.Index.{entry, fromOf, toOf, numberOf, tokenOf, tokenAt, entries, nextOf, Whole, Ordered, Held, Missing, Kept, Here, Entered}
+use Rattle.numbering.specs.Index.{entry, fromOf, toOf, numberOf, tokenOf, tokenAt, entries, nextOf, Whole, Held, Missing, Kept, Here, Entered}
 use Rattle.ordered.proofs.Inserted.{here, each, still, rises, inserted-length}
 use Rattle.numbering.proofs.Numbering.{known-kept, known-new, known-still, known-more, new-literal, new-name}
 
@@ -31,8 +31,8 @@ entered-found input before from to c v k q h =
     record { number = rw s n; kept = rw s q; more = omega arith }
 
 -- a token that belongs somewhere is not known
-unknown : (input items : List ℕ) (c : Counts) (k : Known) (t : Token) (r : ℕ) → Kept input items c k → Missing input items (entries c) t r → knows k t ≡ false
-unknown input items c k t r q m = by-cases (knows k t) (λ e. absurd (clash e)) (λ e. e)
+missing-unknown : (input items : List ℕ) (c : Counts) (k : Known) (t : Token) (r : ℕ) → Kept input items c k → Missing input items (entries c) t r → knows k t ≡ false
+missing-unknown input items c k t r q m = by-cases (knows k t) (λ e. absurd (clash e)) (λ e. e)
   where
     clash : knows k t ≡ true → ⊥
     clash e = go (decLt (q .all t e .0) r)
@@ -45,7 +45,7 @@ unknown input items c k t r q m = by-cases (knows k t) (λ e. absurd (clash e)) 
         go (no p) = let w : weight (tokenAt input items i) ≡ weight t = ap weight (q .all t e .2) in omega (arith, m .above i (omega arith) (q .all t e .1))
 
 -- an entry says what was put into it
-module _ (input : List ℕ) (from to v : ℕ) (f : from ≤ 65536) (t : to ≤ 65536) (n : v < 65536) where
+module _ (from to v : ℕ) (f : from ≤ 65536) (t : to ≤ 65536) (n : v < 65536) where
   entry-from : fromOf (entry from to v) ≡ from
   unfolding entry
   entry-from = omega arith
@@ -58,11 +58,12 @@ module _ (input : List ℕ) (from to v : ℕ) (f : from ≤ 65536) (t : to ≤ 6
   unfolding entry
   entry-number = omega arith
 
-  entry-token : tokenOf input (entry from to v) ≡ part input from to
+  entry-token : (input : List ℕ) → tokenOf input (entry from to v) ≡ part input from to
   unfolding tokenOf
-  entry-token = rw (entry-from, entry-to)
+  entry-token input = rw (entry-from, entry-to)
 
-first-byte : (input : List ℕ) (from to : ℕ) → from < to → isLiteral (part input from to) ≡ eqb (getD input from 0) 34
+-- the first byte says whether a part is a literal
+pub first-byte : (input : List ℕ) (from to : ℕ) → from < to → isLiteral (part input from to) ≡ eqb (getD input from 0) 34
 unfolding isLiteral
 first-byte input from to h =
     let e : getD (part input from to) 0 0 ≡ getD input from 0 = getD-take (to - from) (drop from input) 0 0 (omega arith) ∙ getD-drop from input 0 0 ∙ rw add-zero in
@@ -80,10 +81,8 @@ next-new : (input items : List ℕ) (c : Counts) (k : Known) (t : Token) (b : �
 unfolding nextOf
 next-new input items c k t b q e l =
     by-cases (eqb b 34)
-    (λ p. let n = new-literal k t (l ∙ p) e in
-    rw p (record { number = sym (n .0 ∙ ap (λ (m : ℕ). 40000 + m) (sym (q .literals))); names = q .names ∙ sym (n .1); literals = ap (λ (m : ℕ). m + 1) (q .literals) ∙ sym (n .2); count = omega arith; most = omega arith }))
-    (λ p. let n = new-name k t (l ∙ p) e in
-    rw p (record { number = sym (n .0 ∙ ap (λ (m : ℕ). 6 + m) (sym (q .names))); names = ap (λ (m : ℕ). m + 1) (q .names) ∙ sym (n .1); literals = q .literals ∙ sym (n .2); count = omega arith; most = omega arith }))
+    (λ p. let n = new-literal k t (l ∙ p) e in rw p (record { number = omega arith; names = omega arith; literals = omega arith; count = omega arith; most = omega arith }))
+    (λ p. let n = new-name k t (l ∙ p) e in rw p (record { number = omega arith; names = omega arith; literals = omega arith; count = omega arith; most = omega arith }))
 
 module _ (input before : List ℕ) (from to : ℕ) (c : Counts) (h : Here input from to before c) (r : ℕ)
     (m : Missing input before (entries c) (part input from to) r) (k : Known) (q : Kept input before c k) where
@@ -101,14 +100,20 @@ module _ (input before : List ℕ) (from to : ℕ) (c : Counts) (h : Here input 
 
   new : Next c k t g
   unfolding t g
-  new = next-new input before c k t (getD input from 0) q (unknown input before c k t r q m) (first-byte input from to (h .some))
+  new = next-new input before c k t (getD input from 0) q (missing-unknown input before c k t r q m) (first-byte input from to (h .some))
 
   small : g .number < 65536
   small = omega (arith, new .most, h .room, h .most)
 
+  low : from ≤ 65536
+  low = omega (arith, h .some, h .within, h .few)
+
+  high : to ≤ 65536
+  high = omega (arith, h .within, h .few)
+
   token : tokenOf input v ≡ t
   unfolding t v
-  token = entry-token input from to (g .number) (omega (arith, h .some, h .within, h .few)) (omega (arith, h .within, h .few)) small
+  token = entry-token from to (g .number) low high small input
 
   fits : r ≤ entries c
   fits = m .within
@@ -120,8 +125,8 @@ module _ (input before : List ℕ) (from to : ℕ) (c : Counts) (h : Here input 
   unfolding after v
   whole = each before (entries c) r v fits room (Whole input) (h .ordered .whole)
       (record {
-        forward = rw (entry-from input from to (g .number) (omega (arith, h .some, h .within, h .few)) (omega (arith, h .within, h .few)) small, entry-to input from to (g .number) (omega (arith, h .some, h .within, h .few)) (omega (arith, h .within, h .few)) small) (omega (arith, h .some));
-        within = rw (entry-to input from to (g .number) (omega (arith, h .some, h .within, h .few)) (omega (arith, h .within, h .few)) small) (h .within);
+        forward = rw (entry-from from to (g .number) low high small, entry-to from to (g .number) low high small) (omega (arith, h .some));
+        within = rw (entry-to from to (g .number) low high small) (h .within);
       })
 
   rising : (i : ℕ) → suc i < suc (entries c) → weight (tokenAt input after i) < weight (tokenAt input after (suc i))
@@ -131,7 +136,7 @@ module _ (input before : List ℕ) (from to : ℕ) (c : Counts) (h : Here input 
 
   stored : numberOf v ≡ g .number
   unfolding v
-  stored = entry-number input from to (g .number) (omega (arith, h .some, h .within, h .few)) (omega (arith, h .within, h .few)) small
+  stored = entry-number from to (g .number) low high small
 
   known : (i : ℕ) → i < suc (entries c) → knows (withToken k t) (tokenAt input after i) ≡ true
   unfolding after

@@ -1,11 +1,11 @@
 -- Laws of the index: a token is held, or its entry belongs at a place.
 -- Assumes nothing.
-use mathlib.Core.Path.{_≡_, refl, sym, ap, _∙_}
+use mathlib.Core.Path.{_≡_, refl}
 use mathlib.Core.List.{List}
-use Prim.Native.Nat.{ℕ, zero, suc, _+_, _-_, _≤_, _<_}
+use Prim.Native.Nat.{ℕ, _+_, _-_, _≤_, _<_}
 use native.Mathlib.Omega.{arith}
 use native.Mathlib.Decide.{decLt}
-use lib.ListN.{length, getD, take, drop, length-take, List·getD-eq-default}
+use lib.ListN.{getD, drop, length-take, List·getD-eq-default}
 use lib.Seq.{getD-take, getD-drop}
 use Rattle.ntriples.specs.Tokens.{Token, part}
 use Rattle.numbering.specs.Weights.{weight, Bytes}
@@ -13,7 +13,7 @@ use Rattle.numbering.specs.Index.{fromOf, toOf, tokenOf, tokenAt, number
 use Rattle.numbering.proofs.Weights.{weight-injective}
 use Rattle.ordered.proofs.Rising.{lighter}
 
-pub bytes-part : (input : List ℕ) (from to : ℕ) → Bytes input → Bytes (part input from to)
+bytes-part : (input : List ℕ) (from to : ℕ) → Bytes input → Bytes (part input from to)
 bytes-part input from to h i = go (decLt i (to - from))
   where
     go : Dec (i < to - from) → getD (part input from to) i 0 < 256

@@ -4,3 +4,4 @@ pub mod Numbering
 pub mod Vocabulary
 pub mod Entered
 pub mod Terms
+pub mod Appearance

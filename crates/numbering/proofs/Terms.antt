@@ -2,15 +2,15 @@
 -- Assumes nothing.
 use mathlib.Core.Path.{_≡_, refl, sym, ap, _∙_}
 use mathlib.Core.Logic.{_⊎_, inl, inr, ⊎-elim}
-use mathlib.Core.Bool.{Bool, true, false, cond, true≢false}
+use mathlib.Core.Bool.{true, false, cond, true≢false}
 use mathlib.Core.List.{List, [], _∷_, _++_, List·Memᴰ, List·Memᴰ·head, List·Memᴰ·tail, List·Memᴰ·not-nil, List·Memᴰ·cases-cons}
 use Prim.Native.Nat.{ℕ, _+_, _≤_, _<_}
 use native.Mathlib.Omega.{arith}
 use lib.ListN.{length}
 use Rattle.facts.proofs.Terms.{by-cases}
 use Rattle.ntriples.specs.Tokens.{Token}
-use Rattle.numbering.specs.Numbering.{same, has, place, isLiteral, Known, knows, numberIn, withToken}
-use Rattle.numbering.specs.Vocabulary.{bytes, sc, sp, dom, range, type, vocabulary, termOf, withTerm, knownAfter, known, unknown}
+use Rattle.numbering.specs.Numbering.{same, has, place, isLiteral, Known, knows, numberIn}
+use Rattle.numbering.specs.Vocabulary.{sc, sp, dom, range, type, vocabulary, termOf, withTerm, knownAfter, known, unknown}
 use Rattle.numbering.proofs.Numbering.{same-eq, place-within, place-injective, known-kept, known-new, known-still, number-injective, token-bounds}
 
 -- the token has a number: it is of the vocabulary, or known
@@ -115,6 +115,9 @@ pub vocabulary-names : (t : Token) → has t vocabulary ≡ true → isLiteral t
 unfolding literalCount sc sp dom range type
 vocabulary-names t = no-literal t vocabulary refl
 
+pub literal-other : (t : Token) → isLiteral t ≡ true → has t vocabulary ≡ false
+literal-other t l = by-cases (has t vocabulary) (λ e. absurd (true≢false (sym l ∙ vocabulary-names t e))) (λ e. e)
+
 -- ---- kinds
 
 -- the term of a token that has one: by the vocabulary, among the names, or among the literals
@@ -137,8 +140,7 @@ term-kinds k t few less h =
     record {
       fixed = λ v. rw v;
       name = λ v l. let r = number-name k t (numbered-known k t v h) l in rw v (omega arith, omega arith);
-      literal = λ l. let v : has t vocabulary ≡ false = by-cases (has t vocabulary) (λ e. absurd (true≢false (sym l ∙ vocabulary-names t e))) (λ e. e) in
-          let r = number-literal k t (numbered-known k t v h) l in rw v (omega arith, omega arith);
+      literal = λ l. let v = literal-other t l in let r = number-literal k t (numbered-known k t v h) l in rw v (omega arith, omega arith);
     }
 
 -- ---- no two tokens have one number

@@ -2,10 +2,10 @@
 -- Assumes nothing.
 use mathlib.Core.Path.{_≡_, refl, sym, ap, _∙_}
 use mathlib.Core.List.{List, [], _∷_, _++_, append-assoc}
-use Prim.Native.Nat.{ℕ, zero, suc, _+_, _-_, _≤_, _<_}
+use Prim.Native.Nat.{ℕ, zero, suc, _-_, _≤_, _<_}
 use native.Mathlib.Omega.{arith}
-use lib.ListN.{length, getD, take, drop, set, length-append, length-take, length-drop, List·getD-append, take-append-drop}
-use lib.Seq.{slice, slice-empty, slice-cons, length-slice, take-suc, length-take-le, set-at, getD-take}
+use lib.ListN.{length, getD, take, drop, set, List·getD-append, take-append-drop}
+use lib.Seq.{slice, slice-empty, slice-cons, take-suc, length-take-le, set-at, getD-take}
 use Rattle.ordered.specs.Inserted.{inserted}
 
 -- the first j + 1 where they were; those from j to n one place further; and the rest behind

@@ -32,11 +32,8 @@ fn is_smaller(a: &[u8], b: &[u8]) -> bool
     let mut i = a.len();
     while 0 < i {
         i -= 1;
-        if a[i] < b[i] {
-            return true;
-        }
-        if b[i] < a[i] {
-            return false;
+        if a[i] != b[i] {
+            return a[i] < b[i];
         }
     }
     false

@@ -1,13 +1,10 @@
 -- `insertion::insert` meets its contract. The loop's invariant: the numbers from j on stand one place further.
 -- Assumes nothing.
-use mathlib.Core.Path.{_≡_, refl, sym, ap, _∙_}
-use mathlib.Core.List.{_++_, _∷_}
-use Prim.Native.Nat.{ℕ, suc, _-_, _≤_, _<_}
+use mathlib.Core.Path.{_≡_, refl}
+use Prim.Native.Nat.{_≤_}
 use native.Mathlib.Omega.{arith}
-use lib.ListN.{length, take, drop, length-set}
-use lib.Seq.{slice}
+use lib.ListN.{length, length-set}
 use denote.Ref.{now}
-use Rattle.ordered.specs.Inserted.{inserted}
 use Rattle.ordered.proofs.Shifts.{Moved, moved-none, moved-more, moved-put}
 use Rattle.insertion.proofs.insert.Statement.{statement}
 use Rattle.insertion.proofs.insert.Tie as tie

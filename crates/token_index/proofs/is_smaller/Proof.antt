@@ -1,13 +1,10 @@
 -- `token_index::is_smaller` meets its contract. The loop's invariant: the tokens agree from i on.
 -- Assumes nothing.
-use mathlib.Core.Path.{_≡_, sym, ap, _∙_}
-use Prim.Native.Nat.{ℕ, _-_, _≤_, _<_}
+use mathlib.Core.Path.{_≡_, sym, _∙_}
+use Prim.Native.Nat.{_≤_}
 use native.Mathlib.Omega.{arith}
-use native.Mathlib.Nat.{le-of-lt}
-use lib.ListN.{length, getD, drop, drop-of-length-le}
-use borrow.Author.Tests.{lt-ltb, le-ltb}
+use lib.ListN.{length, drop, drop-of-length-le}
 use denote.Ref.{now}
-use Rattle.numbering.specs.Weights.{weight}
 use Rattle.numbering.proofs.Weights.{decided, agreed, none-before}
 use Rattle.token_index.proofs.is_smaller.Statement.{statement}
 use Rattle.token_index.proofs.is_smaller.Tie as tie
@@ -34,40 +31,31 @@ shared-slice-read-if1 c = omega arith
 shared-slice-read-if1-2 : tie.Need-shared-slice-read-if1-2 Inv-loop μ-loop
 shared-slice-read-if1-2 c = omega arith
 
+shared-slice-read-result : tie.Need-shared-slice-read-result Inv-loop μ-loop
+shared-slice-read-result c = omega arith
+
+shared-slice-read-result-2 : tie.Need-shared-slice-read-result-2 Inv-loop μ-loop
+shared-slice-read-result-2 c = omega arith
+
 returns : tie.Need-returns Inv-loop μ-loop
 returns c =
-    let s = c .before .before .before .before .before in
-    let l = c .before .before .before .before .loop in
-    sym (lt-ltb _ _ (decided (l .i) (now (s .args .a)) (now (s .args .b)) (λ i. omega (arith, c .before .before .shared-slice-known .given i)) (s .pre) (omega arith) (l .inv .0) (l .inv .1) (c .if1 .taken)))
-
-shared-slice-read-if2 : tie.Need-shared-slice-read-if2 Inv-loop μ-loop
-shared-slice-read-if2 c = omega arith
-
-shared-slice-read-if2-2 : tie.Need-shared-slice-read-if2-2 Inv-loop μ-loop
-shared-slice-read-if2-2 c = omega arith
-
-returns-2 : tie.Need-returns-2 Inv-loop μ-loop
-returns-2 c =
-    let s = c .before .before .before .before .before .before .before .before in
-    let l = c .before .before .before .before .before .before .before .loop in
-    let a = now (s .args .a) in
-    let b = now (s .args .b) in
-    let e : length a ≡ length b = s .pre in
-    sym (le-ltb _ _ (le-of-lt (decided (l .i) b a (λ i. omega (arith, c .before .before .shared-slice-known3 .given i)) (sym e) (omega arith) (omega arith) (sym (l .inv .1)) (c .if2 .taken))))
+    let t = c .before .before in
+    let l = t .before .before .before .before .loop in
+    let s = t .before .before .before .before .before in
+    decided (l .i) (now (s .args .a)) (now (s .args .b)) (λ i. omega (arith, t .before .before .shared-slice-known .given i)) (λ i. omega (arith, t .before .shared-slice-known2 .given i))
+    (s .pre) (omega arith) (l .inv .0) (l .inv .1) (t .if1 .taken)
 
 loop-less : tie.Need-loop-less Inv-loop μ-loop
 loop-less c = omega arith
 
 loop-again : tie.Need-loop-again Inv-loop μ-loop
 loop-again c =
-    let s = c .before .before .before .before .before .before .before .before in
-    let l = c .before .before .before .before .before .before .before .loop in
-    let a = now (s .args .a) in
-    let b = now (s .args .b) in
-    (omega arith, agreed (l .i) a b (s .pre) (omega arith) (l .inv .0) (l .inv .1) (omega arith))
+    let s = c .before .before .before .before .before in
+    let l = c .before .before .before .before .loop in
+    (omega arith, agreed (l .i) (now (s .args .a)) (now (s .args .b)) (s .pre) (omega arith) (l .inv .0) (l .inv .1) (c .if1 .left))
 
-returns-3 : tie.Need-returns-3 Inv-loop μ-loop
-returns-3 c =
+returns-2 : tie.Need-returns-2 Inv-loop μ-loop
+returns-2 c =
     let s = c .before .before in
     let l = c .before .loop in
     let z : l .i ≡ 0 = omega arith in
@@ -83,10 +71,9 @@ is-smaller-spec =
     sub-i
     shared-slice-read-if1
     shared-slice-read-if1-2
+    shared-slice-read-result
+    shared-slice-read-result-2
     returns
-    shared-slice-read-if2
-    shared-slice-read-if2-2
-    returns-2
     loop-less
     loop-again
-    returns-3)
+    returns-2)

@@ -1,14 +1,11 @@
 -- `token_index::number` meets its contract.
 -- Assumes nothing.
-use mathlib.Core.Path.{_≡_, sym, ap, subst, _∙_}
-use Prim.Native.Nat.{ℕ, _+_, _≤_, _<_}
+use mathlib.Core.Path.{_≡_, ap, subst, _∙_}
 use native.Mathlib.Omega.{arith}
-use lib.ListN.{length, getD}
+use lib.ListN.{getD}
 use borrow.Author.Needs.{needs}
 use denote.Ref.{now}
 use Rattle.ntriples.specs.Tokens.{part}
-use Rattle.numbering.specs.declared.Found.{Found}
-use Rattle.numbering.specs.declared.Found.the-variants.{Number, Place}
 use Rattle.numbering.specs.declared.Numbered.{Numbered}
 use Rattle.ordered.specs.Inserted.{inserted}
 use Rattle.numbering.specs.Index.{entry, entries, nextOf, Sought, Missing}
