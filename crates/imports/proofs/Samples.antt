@@ -17,7 +17,7 @@ use Rattle.ntriples.specs.Lexed.{byteAt, lineOf}
 use Rattle.ntriples.specs.Tokens.{Token}
 use Rattle.numbering.specs.Numbering.{has, place, isLiteral, Known}
 use Rattle.numbering.specs.Vocabulary.{vocabulary, termOf}
-use Rattle.numbering.proofs.Vocabulary.{among}
+use Rattle.numbering.proofs.Vocabulary.{counted}
 use Rattle.numbering.proofs.Terms.{Kinds}
 use Rattle.imports.specs.Lines.{linesOf, Statement, said, statements}
 use Rattle.imports.specs.Import.{knownBy, factOf, lineRefusal, factRefusal, firstOn, orElse, judgedBy, judged}
@@ -27,20 +27,20 @@ use Rattle.imports.proofs.Sizes.{tokens-among, said-among, token-kinds}
 -- ---- how it is found
 
 -- the vocabulary's own number
-pub sample-word : (t : Token) → (among t ≡ 0 → ⊥) → among t ≡ sampleOf t
+pub sample-word : (t : Token) → (counted 1 vocabulary t ≡ 0 → ⊥) → counted 1 vocabulary t ≡ sampleOf t
 unfolding sampleOf
 sample-word t h = by-cases (has t vocabulary) (λ e. rw e) (λ e. absurd (h (rw e)))
 
-other : (t : Token) → among t ≡ 0 → has t vocabulary ≡ false
+other : (t : Token) → counted 1 vocabulary t ≡ 0 → has t vocabulary ≡ false
 other t e = by-cases (has t vocabulary) (λ p. let z : 1 + place t vocabulary ≡ 0 = rw p at e in absurd (omega arith)) (λ p. p)
 
 -- or by its first byte
-pub sample-literal : (t : Token) → among t ≡ 0 → byteAt t 0 ≡ 34 → 40000 ≡ sampleOf t
+pub sample-literal : (t : Token) → counted 1 vocabulary t ≡ 0 → byteAt t 0 ≡ 34 → 40000 ≡ sampleOf t
 unfolding sampleOf isLiteral
 sample-literal [] e h = absurd (omega arith)
 sample-literal (b ∷ t) e h = rw (other (b ∷ t) e, h)
 
-pub sample-name : (t : Token) → among t ≡ 0 → (byteAt t 0 ≡ 34 → ⊥) → 6 ≡ sampleOf t
+pub sample-name : (t : Token) → counted 1 vocabulary t ≡ 0 → (byteAt t 0 ≡ 34 → ⊥) → 6 ≡ sampleOf t
 unfolding sampleOf isLiteral
 sample-name [] e h = rw (other [] e)
 sample-name (b ∷ t) e h = rw (other (b ∷ t) e, ne-eqb b 34 h)
