@@ -1,7 +1,7 @@
 -- What the lexer found where it answers: the places of a line's parts.
 -- Assumes nothing.
 use mathlib.Core.Path.{_≡_, refl, sym, ap, _∙_}
-use mathlib.Core.Bool.{Bool, true, false, _||_}
+use mathlib.Core.Bool.{Bool, true, false, cond, _||_}
 use mathlib.Core.List.{List}
 use Prim.Native.Nat.{ℕ}
 use lib.Dec.{eqb}
@@ -89,3 +89,14 @@ parsed l =
         by-cases (eqb to 0)
         (λ e. rw (← subject-none l at to refl (eqb-true to 0 e)) tt)
         (λ e. let n = eqb-false to 0 e in rw (← subject-some l at to refl n) (predicate (span at to) refl refl n))
+
+-- and so the line is read, where it does not end before its subject
+pub parts-line : (l : List ℕ) (a b c : Span) → Parts l a b c → ends l (a .from) ≡ false → lineOf l ≡ cond (blanks l a c) Unknown (Triple a b c)
+parts-line l a b c p e =
+    sym (line-some l (rw (← p .from-subject) e))
+    ∙ ap (fromSubject l) (sym (p .from-subject)) ∙ sym (subject-some l (a .from) (a .to) (p .subject) (p .has-subject))
+    ∙ ap (fromPredicate l a) (sym (p .from-predicate)) ∙ sym (predicate-some l a (b .from) (b .to) (p .predicate) (p .has-predicate))
+    ∙ ap (fromObject l a b) (sym (p .from-object))
+    ∙ by-cases (blanks l a c)
+    (λ g. rw g (sym (object-unknown l a b (c .from) (c .to) (p .object) (p .has-object) (p .stop) g)))
+    (λ g. rw g (sym (object-triple l a b (c .from) (c .to) (p .object) (p .has-object) (p .stop) g)))

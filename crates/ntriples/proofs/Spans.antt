@@ -17,7 +17,7 @@ use Rattle.ntriples.specs.Grammar.{iri, quoted, literal}
 use Rattle.ntriples.specs.Lexed.{byteAt, runEnd, iriEnd, literalEnd, subjectEnd, objectEnd, stops, isBlank, lineOf}
 use Rattle.ntriples.proofs.Lexed.{any-default, sits, never}
 use Rattle.ntriples.proofs.Lines.{subject-iri, object-literal, object-other, stops-not}
-use Rattle.ntriples.proofs.Stands.{Stands, then-stands, stands-inside}
+use Rattle.ntriples.proofs.Stands.{Stands, then-stands}
 use Rattle.ntriples.proofs.Runs.{run-read, iri-read, enclosed-wide}
 use Rattle.ntriples.proofs.Literals.{literal-read}
 use Rattle.ntriples.proofs.Parts.{Parts, Parsed, blanks, parsed}

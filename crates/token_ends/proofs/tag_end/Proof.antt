@@ -6,15 +6,14 @@ use Prim.Native.Nat.{_+_, _-_}
 use native.Mathlib.Omega.{arith}
 use lib.ListN.{length, drop, getD}
 use lib.Dec.{eqb}
-use borrow.Author.Needs.{needs}
 use denote.Ref.{now}
-use Rattle.ntriples.specs.Lexed.{tagFrom, tagEnd}
-use Rattle.ntriples.proofs.Lexed.{goesOn, tag-more, tag-part, tag-stop, tag-over}
+use Rattle.ntriples.specs.Lexed.{byteAt, tagEnd}
+use Rattle.ntriples.proofs.Lexed.{any-default, goesOn, tagAt, tag-more, tag-part, tag-stop, tag-over}
 use Rattle.token_ends.proofs.tag_end.Statement.{statement}
 use Rattle.token_ends.proofs.tag_end.Tie as tie
 
 abbrev Inv-loop : tie.InvT-loop
-Inv-loop s at first₀ fresh₀ i₀ first fresh i = tagEnd s at ≡ tagFrom first fresh i (drop i s)
+Inv-loop s at first₀ fresh₀ i₀ first fresh i = tagEnd s at ≡ tagAt first fresh s i
 
 abbrev μ-loop : tie.MeasureT-loop
 μ-loop s at first₀ fresh₀ i₀ first fresh i = length s - i
@@ -40,22 +39,25 @@ loop-less c = omega arith
 
 loop-again : tie.Need-loop-again Inv-loop μ-loop
 loop-again c =
-    let s = c .before .before .before .before .before .before .before in
+    let s = now (c .before .before .before .before .before .before .before .args .s) in
     let l = c .before .before .before .before .before .loop in
-    l .inv ∙ tag-more (now (s .args .s)) (l .first) (l .fresh) (l .i) (omega arith) (rw (← c .before .before .is-of .ensures, ← c .before .is-of2 .ensures) (c .if1 .taken))
+    l .inv ∙ tag-more s (l .first) (l .fresh) (l .i) (ap (goesOn (l .first)) (any-default s (l .i) 10 0 (omega arith)) ∙ rw (← c .before .before .is-of .ensures, ← c .before .is-of2 .ensures) (c .if1 .taken))
 
 -- the byte does not go on with the part
-other : (c : tie.Else1 Inv-loop μ-loop) → let l = c .before .before .before .before .before .loop in goesOn (l .first) (getD (now (c .before .before .before .before .before .before .before .args .s)) (l .i) 0) ≡ false
-other c = rw (← c .before .before .is-of .ensures, ← c .before .is-of2 .ensures) (c .if1 .left)
+other : (c : tie.Else1 Inv-loop μ-loop) → let l = c .before .before .before .before .before .loop in goesOn (l .first) (byteAt (now (c .before .before .before .before .before .before .before .args .s)) (l .i)) ≡ false
+other c =
+    let s = now (c .before .before .before .before .before .before .before .args .s) in
+    let l = c .before .before .before .before .before .loop in
+    ap (goesOn (l .first)) (any-default s (l .i) 10 0 (omega arith)) ∙ rw (← c .before .before .is-of .ensures, ← c .before .is-of2 .ensures) (c .if1 .left)
 
 ended-requires : tie.Need-ended-requires Inv-loop μ-loop
 ended-requires c κs = tt
 
 returns : tie.Need-returns Inv-loop μ-loop
 returns c =
-    let s = c .before .before .before .before .before .before .before .before .before in
+    let s = now (c .before .before .before .before .before .before .before .before .before .args .s) in
     let l = c .before .before .before .before .before .before .before .loop in
-    c .ended .ensures ∙ sym (l .inv ∙ tag-stop (now (s .args .s)) (l .first) (l .fresh) (l .i) (omega arith) (other (c .before .before)) (c .before .if2 .taken))
+    c .ended .ensures ∙ sym (l .inv ∙ tag-stop s (l .first) (l .fresh) (l .i) (other (c .before .before)) (rw (any-default s (l .i) 10 0 (omega arith)) (c .before .if2 .taken)))
 
 add-i-2 : tie.Need-add-i-2 Inv-loop μ-loop
 add-i-2 c = omega arith
@@ -65,18 +67,18 @@ loop-less-2 c = omega arith
 
 loop-again-2 : tie.Need-loop-again-2 Inv-loop μ-loop
 loop-again-2 c =
-    let s = c .before .before .before .before .before .before .before .before in
+    let s = now (c .before .before .before .before .before .before .before .before .args .s) in
     let l = c .before .before .before .before .before .before .loop in
-    l .inv ∙ tag-part (now (s .args .s)) (l .first) (l .fresh) (l .i) (omega arith) (other (c .before)) (c .if2 .left)
+    l .inv ∙ tag-part s (l .first) (l .fresh) (l .i) (other (c .before)) (rw (any-default s (l .i) 10 0 (omega arith)) (c .if2 .left))
 
 ended-requires-2 : tie.Need-ended-requires-2 Inv-loop μ-loop
 ended-requires-2 c κs = tt
 
 returns-2 : tie.Need-returns-2 Inv-loop μ-loop
 returns-2 c =
-    let s = c .before .before .before .before in
+    let s = now (c .before .before .before .before .args .s) in
     let l = c .before .before .loop in
-    c .ended2 .ensures ∙ sym (l .inv ∙ tag-over (now (s .args .s)) (l .first) (l .fresh) (l .i) (omega arith))
+    c .ended2 .ensures ∙ sym (l .inv ∙ tag-over s (l .first) (l .fresh) (l .i) (omega arith))
 
 pub tag-end-spec : {M : Type 1} → statement M
 tag-end-spec =
