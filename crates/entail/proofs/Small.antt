@@ -39,6 +39,8 @@ use Rattle.rules.proofs.Chosen.{fewest-few}
 use Rattle.question.specs.Question.{asked, fillingFor, answerBy, answerOf, unless, answerFrom, questionAnswer}
 use Rattle.question.proofs.Answered.{asked-sound, named-within}
 use Rattle.acceptance.specs.Check.{linesOf, formVerdict, stepVerdict, after, endAnswer, linesAnswer, derivationAnswer, factAnswer, tableAnswer, checkAnswer}
+use Rattle.imports.specs.Import.{importOf}
+use Rattle.imports.proofs.Imported.{import-place, import-facts}
 use Rattle.entail.specs.Packed.{packed, unpacked, Small}
 
 -- what is packed is unpacked again
@@ -54,13 +56,13 @@ unpack-pack c s =
     let x : packed c / 281474976710656 % 65536 ≡ c .filling = rw g (omega (arith, s .filling)) in
     λ i. record { number = n i; place = p i; count = k i; filling = x i }
 
-pub refused-small : (r : Refusal) (place : ℕ) → place ≤ 2047 → Small (codeOf (Refused r place))
+pub refused-small : (r : Refusal) (place : ℕ) → place ≤ 65536 → Small (codeOf (Refused r place))
 refused-small r place h = record { number = omega (arith, number-within r); place = omega arith; count = omega arith; filling = omega arith }
 
 -- ---- tables
 
 -- reading and writing, over any table whose places and facts are few
-settled-small : (content : List Fact → List ℕ) (t : Table) (m : ℕ) → ((r : Refusal) (place : ℕ) → t ≡ refused r place → place ≤ 1024) → ((facts : List Fact) → t ≡ accepted facts → length facts ≤ 1024)
+settled-small : (content : List Fact → List ℕ) (t : Table) (m : ℕ) → ((r : Refusal) (place : ℕ) → t ≡ refused r place → place ≤ 65536) → ((facts : List Fact) → t ≡ accepted facts → length facts ≤ 1024)
     → Small (codeOf (settled content t m))
 unfolding settled
 settled-small content (refused r place) m p f = refused-small r place (omega (arith, p r place refl))
@@ -70,10 +72,14 @@ settled-small content (accepted facts) m p f =
     (λ e. rw e (refused-small Short 0 (omega arith)))
 
 pub read-small : (b : List ℕ) (m : ℕ) → Small (codeOf (settled rowOf (tableOf b) m))
-read-small b m = settled-small rowOf (tableOf b) m (table-place b) (λ facts e. accepted-size b facts e .1)
+read-small b m = settled-small rowOf (tableOf b) m (λ r place e. omega (arith, table-place b r place e)) (λ facts e. accepted-size b facts e .1)
 
 pub write-small : (row : List ℕ) (m : ℕ) → Small (codeOf (settled tableBytes (tableOfRow row) m))
-write-small row m = settled-small tableBytes (tableOfRow row) m (row-place row) (λ facts e. row-size row facts e .1)
+write-small row m = settled-small tableBytes (tableOfRow row) m (λ r place e. omega (arith, row-place row r place e)) (λ facts e. row-size row facts e .1)
+
+-- importing: a place is a line of at most 65,536, or 0
+pub import-small : (b : List ℕ) (m : ℕ) → Small (codeOf (settled tableBytes (importOf b) m))
+import-small b m = settled-small tableBytes (importOf b) m (import-place b) (import-facts b)
 
 -- ---- the check
 
@@ -99,7 +105,7 @@ unfolding endAnswer
 end-small t x n h =
     by-cases (same (lineAt x (n - 1) .fact) t)
     (λ e. rw e (record { number = omega arith; place = omega arith; count = omega (arith, tables-few (linesOf x n), items-length (lineAt x) 0 n); filling = omega arith }))
-    (λ e. rw e (refused-small End n h))
+    (λ e. rw e (refused-small End n (omega arith)))
 
 derivation-small : (facts : List Fact) (t : Fact) (x : List ℕ) → Small (codeOf (derivationAnswer facts t x))
 unfolding derivationAnswer linesAnswer

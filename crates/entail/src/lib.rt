@@ -1,4 +1,5 @@
-// The public library: the question, the check, reading and writing as C calls them (document 01, "Panel and program").
+// The public library: the question, the check, reading, writing and the import as C calls them (document 01, "Panel and program"; document 02,
+// Point 3).
 // A slice is a pointer and then a length; an answer is one number: bits 0 to 7 number, 8 to 31 place, 32 to 47 count, 48 to 63 the
 // term that a yes names for a gap.
 use facts::Answer;
@@ -9,7 +10,7 @@ ghost use Rattle.facts.specs.Answers.{codeOf};
 ghost use Rattle.acceptance.specs.Check.{Judges};
 ghost use Rattle.question.specs.Question.{question, Means};
 ghost use Rattle.entail.specs.Packed.{packed, unpacked, Small};
-ghost use Rattle.entail.specs.Calls.{QuestionCall, CheckCall, ReadCall, WriteCall};
+ghost use Rattle.entail.specs.Calls.{QuestionCall, CheckCall, ReadCall, WriteCall, ImportCall};
 
 // The bits of a place (document 01's: a line's number, or 0), of a count and of the term named begin here.
 const PLACE: u64 = 256;
@@ -83,4 +84,12 @@ pub extern "C" fn factbox_write(row: &[u32], output: &mut [u8]) -> u64
     ensures call { λ r. ⌜ WriteCall (now (row .entry)) (now (output .entry)) (now (output .exit)) r ⌝ }
 {
     pack(writer::write(row, output))
+}
+
+// Imports N-Triples as a table.
+#[no_mangle]
+pub extern "C" fn factbox_import(text: &[u8], table: &mut [u8]) -> u64
+    ensures call { λ r. ⌜ ImportCall (now (text .entry)) (now (table .entry)) (now (table .exit)) r ⌝ }
+{
+    pack(importer::import(text, table))
 }

@@ -50,7 +50,13 @@ fn add_statement(
     ensures { λ r. ⌜ Grows (now (input .entry)) (statementAt (now (input .entry)) at subject predicate object ∷ []) (now (items .entry)) (now (items .exit)) (now (keys .entry)) (now (keys .exit)) g r ⌝ }
 {
     let s = term(input, at + subject.from, at + subject.to, items, g.counts);
-    let p = term(input, at + predicate.from, at + predicate.to, items, s.counts);
+    let p = term(
+        input,
+        at + predicate.from,
+        at + predicate.to,
+        items,
+        s.counts,
+    );
     let o = term(input, at + object.from, at + object.to, items, p.counts);
     let f = Fact {
         subject: s.number,
@@ -66,7 +72,14 @@ fn add_statement(
 }
 
 // The statement of a line, if it makes one.
-fn add_line(input: &[u8], at: usize, end: usize, items: &mut [u64], keys: &mut [u64], g: Progress) -> Progress
+fn add_line(
+    input: &[u8],
+    at: usize,
+    end: usize,
+    items: &mut [u64],
+    keys: &mut [u64],
+    g: Progress,
+) -> Progress
     requires { ⌜ Open (now input) (now items) (now keys) g × (at ≤ end) × (end ≤ length (now input)) ⌝ }
     ensures { λ r. ⌜ Grows (now (input .entry)) (said (part (now (input .entry)) at end)) (now (items .entry)) (now (items .exit)) (now (keys .entry)) (now (keys .exit)) g r ⌝ }
 {
@@ -74,9 +87,11 @@ fn add_line(input: &[u8], at: usize, end: usize, items: &mut [u64], keys: &mut [
         Line::Outside => g,
         Line::Unknown => g,
         Line::Nothing => g,
-        Line::Triple { subject, predicate, object } => {
-            add_statement(input, at, subject, predicate, object, items, keys, g)
-        }
+        Line::Triple {
+            subject,
+            predicate,
+            object,
+        } => { add_statement(input, at, subject, predicate, object, items, keys, g) }
     }
 }
 

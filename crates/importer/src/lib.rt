@@ -1,7 +1,7 @@
 // The import of N-Triples as a table (document 02, Point 3).
+use fact_keys::spread;
 use facts::Answer;
 use facts::Refusal;
-use fact_keys::spread;
 use import_collect::collect;
 use import_judge::judge;
 use imports::Finding;

@@ -53,13 +53,13 @@ termed-fixed input from to items c v k q e h =
     let t = part input from to in
     by-cases (has t vocabulary)
     (λ p. let n : v ≡ 1 + place t vocabulary = e ∙ ap (λ (b : Bool). cond b (1 + place t vocabulary) 0) p in
-      let w : withTerm k t ≡ k = terms.term-kept k t (inl p) in
-      record {
-        number = n ∙ sym (term-there (withTerm k t) t p);
-        narrow = omega (arith, place-within t vocabulary p);
-        kept = subst (Kept input items c) (sym w) q;
-        more = omega arith
-      })
+    let w : withTerm k t ≡ k = terms.term-kept k t (inl p) in
+    record {
+      number = n ∙ sym (term-there (withTerm k t) t p);
+      narrow = omega (arith, place-within t vocabulary p);
+      kept = subst (Kept input items c) (sym w) q;
+      more = omega arith;
+    })
     (λ p. absurd (h (e ∙ ap (λ (b : Bool). cond b (1 + place t vocabulary) 0) p)))
 
 -- a number is narrow where few tokens have one
@@ -77,19 +77,19 @@ termed-other input from to before after c r k h e m =
     by-cases (has t vocabulary)
     (λ p. let n : 0 ≡ 1 + place t vocabulary = e ∙ ap (λ (b : Bool). cond b (1 + place t vocabulary) 0) p in absurd (omega arith))
     (λ p.
-      let u = withToken k t in
-      let w : withTerm k t ≡ u = with-else k t p in
-      let q : Kept input after (r .counts) u = m .kept in
-      let n : r .number ≡ termOf (withTerm k t) t = m .number ∙ sym (term-else u t p) ∙ ap (λ (x : Known). termOf x t) (sym w) in
-      let few : entries (r .counts) ≤ 4096 = omega (arith, m .more, h .room, h .most) in
-      let a : length (u .names) ≤ 4096 = omega (arith, q .names) in
-      let b : length (u .literals) ≤ 4096 = omega (arith, q .literals) in
-      record {
-        number = n;
-        narrow = rw (n, w) (narrow u t a b (inr (known-new k t)));
-        kept = subst (Kept input after (r .counts)) (sym w) q;
-        more = m .more
-      })
+    let u = withToken k t in
+    let w : withTerm k t ≡ u = with-else k t p in
+    let q : Kept input after (r .counts) u = m .kept in
+    let n : r .number ≡ termOf (withTerm k t) t = m .number ∙ sym (term-else u t p) ∙ ap (λ (x : Known). termOf x t) (sym w) in
+    let few : entries (r .counts) ≤ 4096 = omega (arith, m .more, h .room, h .most) in
+    let a : length (u .names) ≤ 4096 = omega (arith, q .names) in
+    let b : length (u .literals) ≤ 4096 = omega (arith, q .literals) in
+    record {
+      number = n;
+      narrow = rw (n, w) (narrow u t a b (inr (known-new k t)));
+      kept = subst (Kept input after (r .counts)) (sym w) q;
+      more = m .more;
+    })
 
 -- a token that stands in the input can be entered, where few are
 pub here-of : (input items : List ℕ) (c : Counts) (k : Known) (at : ℕ) (s : Span) → length input ≤ 65536 → length items ≡ 3075 → entries c ≤ 3074 → Kept input items c k → Stands input at s
@@ -130,10 +130,10 @@ few-entries input items items′ c d done s k l few old more =
     let f = factOf (knownBy (done ++ (s ∷ []))) s in
     ⊎-elim
     (λ (m : List·Memᴰ f (factsOf done)).
-      let e : knownBy (done ++ (s ∷ [])) ≡ knownBy done = fact-held done s (omega (arith, l .names)) m in
-      let a : d .names ≡ c .names = l .names ∙ ap (λ (x : Known). length (x .names)) e ∙ sym (k .names) in
-      let b : d .literals ≡ c .literals = l .literals ∙ ap (λ (x : Known). length (x .literals)) e ∙ sym (k .literals) in
-      omega (arith, with-length f (factsOf done)))
+    let e : knownBy (done ++ (s ∷ [])) ≡ knownBy done = fact-held done s (omega (arith, l .names)) m in
+    let a : d .names ≡ c .names = l .names ∙ ap (λ (x : Known). length (x .names)) e ∙ sym (k .names) in
+    let b : d .literals ≡ c .literals = l .literals ∙ ap (λ (x : Known). length (x .literals)) e ∙ sym (k .literals) in
+    omega (arith, with-length f (factsOf done)))
     (λ (m : length (with f (factsOf done)) ≡ suc (length (factsOf done))). omega arith) (held-or-new f (factsOf done))
 
 pub gathers-more : (input items items′ keys keys′ : List ℕ) (g : Progress) (c : Counts) (n : ℕ) (done : List Statement) (s : Statement) (f : Fact)
@@ -153,7 +153,7 @@ gathers-more input items items′ keys keys′ g c n done s f q few size t more 
       room = size ∙ q .room;
       held = subst (Holds keys′ n) w (a .held);
       places = a .size ∙ q .places;
-      tokens = rw (a .held .count, x) l
+      tokens = rw (a .held .count, x) l;
     }
 
 -- ---- one line more
@@ -183,12 +183,11 @@ line-said input at end a b c h g e =
     let n : length l ≡ end - at = length-take-le (end - at) (drop at input) (omega (arith, length-drop at input)) in
     let x : spanned l a ≡ tokenAt input at a = part-part input at end (a .from) (a .to) (omega (arith, s .subject)) (omega (arith, s .subject-predicate, s .predicate, s .predicate-object, s .object, s .inside)) in
     let y : spanned l b ≡ tokenAt input at b = part-part input at end (b .from) (b .to) (omega (arith, s .predicate)) (omega (arith, s .predicate-object, s .object, s .inside)) in
-    let z : spanned l c ≡ tokenAt input at c = part-part input at end (c .from) (c .to) (omega (arith, s .object)) (omega (arith, s .inside)) in
-    (
+    let z : spanned l c ≡ tokenAt input at c = part-part input at end (c .from) (c .to) (omega (arith, s .object)) (omega (arith, s .inside)) in (
       ap (saidBy l) e ∙ rw (x, y, z) refl,
       record { some = omega (arith, s .subject); within = omega (arith, s .subject-predicate, s .predicate, s .predicate-object, s .object, s .inside) },
       record { some = omega (arith, s .predicate); within = omega (arith, s .predicate-object, s .object, s .inside) },
-      record { some = omega (arith, s .object); within = omega (arith, s .inside) }
+      record { some = omega (arith, s .object); within = omega (arith, s .inside) },
     )
 
 -- the same statements, gathered

@@ -45,7 +45,7 @@ whole-of k s h =
     record {
       subject = h (s .subject) (List·Memᴰ·head refl);
       predicate = h (s .predicate) (List·Memᴰ·tail (List·Memᴰ·head refl));
-      object = h (s .object) (List·Memᴰ·tail (List·Memᴰ·tail (List·Memᴰ·head refl)))
+      object = h (s .object) (List·Memᴰ·tail (List·Memᴰ·tail (List·Memᴰ·head refl)));
     }
 
 of-whole : (k : Known) (s : Statement) → Whole k s → (t : Token) → List·Memᴰ t (three s) → Numbered k t

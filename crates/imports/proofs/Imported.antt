@@ -1,15 +1,15 @@
 -- What an input comes to: its refusal, or the table of its facts, which is one that the reader accepts.
 -- Assumes nothing.
 use mathlib.Core.Path.{_≡_, refl, sym, ap, subst, _∙_}
-use mathlib.Core.Logic.{⊎-elim}
+use mathlib.Core.Logic.{_⊎_, inl, inr, ⊎-elim}
 use mathlib.Core.Bool.{Bool, true, false, cond}
 use mathlib.Core.List.{List, [], _∷_, _++_, map, List·Memᴰ, List·Memᴰ·head, List·Memᴰ·tail, List·Memᴰ·not-nil, List·Memᴰ·cases-cons, List·Memᴰ·append-cases}
-use Prim.Native.Nat.{ℕ, suc, _*_, _≤_, _<_}
+use Prim.Native.Nat.{ℕ, zero, suc, _+_, _*_, _≤_, _<_}
 use native.Mathlib.Omega.{arith}
 use native.Mathlib.Decide.{decLt}
-use lib.ListN.{length, take, drop}
+use lib.ListN.{length, getD, take, drop}
 use lib.Seq.{take-append-seam}
-use lib.Dec.{T, leb}
+use lib.Dec.{T, eqb, leb}
 use mir.Facts.{yes-and}
 use borrow.Author.Tests.{le-leb, lt-leb}
 use Rattle.columns.specs.Lines.{over}
@@ -21,6 +21,7 @@ use Rattle.facts.specs.declared.Verdict.the-variants.{Sound, Faulty}
 use Rattle.facts.specs.declared.Answer.{Answer}
 use Rattle.facts.specs.declared.Answer.the-variants.{Refused}
 use Rattle.facts.specs.Facts.{wellFormed, faultOf}
+use Rattle.facts.proofs.Terms.{by-cases}
 use Rattle.facts.proofs.Facts.{fault-none}
 use Rattle.table.specs.Tables.{Table, accepted, refused, allFormed, ascending, TableFacts, rowOf, tableBytes, tableOfRow, Transfers}
 use Rattle.table.proofs.Rows.{row-length, settle-refused}
@@ -32,7 +33,7 @@ use Rattle.gathering.specs.Keys.{Holds}
 use Rattle.gathering.proofs.Gathered.{gathered-only, gathered-ascends}
 use Rattle.imports.specs.declared.Finding.{Finding}
 use Rattle.imports.specs.declared.Finding.the-variants.{Clear, Fault}
-use Rattle.imports.specs.Lines.{linesOf, Statement, saidBy, said, statements}
+use Rattle.imports.specs.Lines.{onFirst, linesOf, Statement, saidBy, said, statements}
 use Rattle.imports.specs.Import.{knownBy, factOf, factsOf, lineRefusal, factRefusal, foundOn, firstOn, orElse, judgedBy, judged, tabled, importOf}
 use Rattle.imports.specs.Collecting.{Collected}
 use Rattle.imports.proofs.Facts.{in-map}
@@ -57,6 +58,14 @@ found-clear : (v : Verdict) (i : ℕ) (later : Finding) → foundOn v i later �
 unfolding foundOn
 found-clear Sound i later e = (refl, e)
 found-clear (Faulty r) i later e = not-found e
+
+found-sound : (i : ℕ) (later : Finding) → later ≡ foundOn Sound i later
+unfolding foundOn
+found-sound i later = refl
+
+found-faulty : (r : Refusal) (i : ℕ) (later : Finding) → Fault r (suc i) ≡ foundOn (Faulty r) i later
+unfolding foundOn
+found-faulty r i later = refl
 
 -- nothing found: every line passes
 pub all-clear : (judge : List ℕ → Verdict) (i : ℕ) (ls : List (List ℕ)) → firstOn judge i ls ≡ Clear → (l : List ℕ) → List·Memᴰ l ls → judge l ≡ Sound
@@ -114,10 +123,10 @@ module _ (b : List ℕ) where
   clear-formed e =
       let c = both-clear (firstOn (λ l. lineRefusal (lineOf l)) 0 (linesOf b)) (firstOn (λ l. factRefusal (factOf (knownBy ss)) (said l)) 0 (linesOf b)) e .1 in
       all-formed (factsOf ss) (λ f m.
-        let s = facts-only ss f m in
-        let o = stands-on (linesOf b) (s .0) (s .1) in
-        let v : factRefusal (factOf (knownBy ss)) (said (o .0)) ≡ Sound = all-clear (λ l. factRefusal (factOf (knownBy ss)) (said l)) 0 (linesOf b) c (o .0) (o .1) in
-        rw (s .2) (fault-none (factOf (knownBy ss) (s .0)) .0 (said-sound (factOf (knownBy ss)) (said (o .0)) (s .0) (one-said (o .0) (lineOf (o .0))) v (o .2))))
+      let s = facts-only ss f m in
+      let o = stands-on (linesOf b) (s .0) (s .1) in
+      let v : factRefusal (factOf (knownBy ss)) (said (o .0)) ≡ Sound = all-clear (λ l. factRefusal (factOf (knownBy ss)) (said l)) 0 (linesOf b) c (o .0) (o .1) in
+      rw (s .2) (fault-none (factOf (knownBy ss) (s .0)) .0 (said-sound (factOf (knownBy ss)) (said (o .0)) (s .0) (one-said (o .0) (lineOf (o .0))) v (o .2))))
 
   -- ---- what the input comes to
 
@@ -146,6 +155,154 @@ module _ (b : List ℕ) where
     unfolding tabled ss
     import-table e n =
         (import-clear e ∙ rw (le-leb (length (factsOf (statements (linesOf b)))) 1024 n) refl, record { formed = clear-formed e; ascends = facts-ascend (statements (linesOf b)); few = n })
+
+-- ---- and what it comes from
+
+-- why an input is refused
+pub data Refusing (b : List ℕ) : Refusal → ℕ → Type 0 where
+  large : 65536 < length b → Refusing b refusals.Statement 0
+  fault : {r : Refusal} {place : ℕ} → length b ≤ 65536 → judged (linesOf b) ≡ Fault r place → Refusing b r place
+  crowd : length b ≤ 65536 → judged (linesOf b) ≡ Clear → 1024 < length (factsOf (statements (linesOf b))) → Refusing b refusals.Crowd 0
+
+-- why it is accepted
+pub record Accepting (b : List ℕ) (fs : List Fact) : Type 0 where
+  pub small : length b ≤ 65536
+  pub clear : judged (linesOf b) ≡ Clear
+  pub few : length (factsOf (statements (linesOf b))) ≤ 1024
+  pub facts : fs ≡ factsOf (statements (linesOf b))
+
+-- one of the two, and the import says which
+pub data Either (b : List ℕ) : Type 0 where
+  bad : (r : Refusal) (place : ℕ) → Refusing b r place → importOf b ≡ refused r place → Either b
+  good : (fs : List Fact) → Accepting b fs → importOf b ≡ accepted fs → Either b
+
+pub either : (b : List ℕ) → Either b
+either b = size (decLt 65536 (length b))
+  where
+    fs : List Fact
+    fs = factsOf (statements (linesOf b))
+
+    number : length b ≤ 65536 → judged (linesOf b) ≡ Clear → Dec (1024 < length (factsOf (statements (linesOf b)))) → Either b
+    number h e (yes p) = bad refusals.Crowd 0 (crowd h e p) (import-crowd b h e p)
+    number h e (no p) = good (factsOf (statements (linesOf b))) (record { small = h; clear = e; few = omega arith; facts = refl }) (import-table b h e (omega arith) .0)
+
+    found : length b ≤ 65536 → (f : Finding) → judged (linesOf b) ≡ f → Either b
+    found h Clear e = number h e (decLt 1024 (length (factsOf (statements (linesOf b)))))
+    found h (Fault r place) e = bad r place (fault h e) (import-fault b h r place e)
+
+    size : Dec (65536 < length b) → Either b
+    size (yes p) = bad refusals.Statement 0 (large p) (import-large b p)
+    size (no p) = found (omega arith) (judged (linesOf b)) refl
+
+pub import-refused : (b : List ℕ) (r : Refusal) (place : ℕ) → importOf b ≡ refused r place → Refusing b r place
+import-refused b r place e = go (either b)
+  where
+    go : Either b → Refusing b r place
+    go (bad q p h z) = let w : refused q p ≡ refused r place = sym z ∙ e in let i : q ≡ r = cc in let j : p ≡ place = cc in rw (← i, ← j) h
+    go (good fs h z) = let w : accepted fs ≡ refused r place = sym z ∙ e in let k : _≡_ {A = ℕ} 0 1 = cc in absurd (omega arith)
+
+pub import-accepted : (b : List ℕ) (fs : List Fact) → importOf b ≡ accepted fs → Accepting b fs
+import-accepted b fs e = go (either b)
+  where
+    go : Either b → Accepting b fs
+    go (bad q p h z) = let w : refused q p ≡ accepted fs = sym z ∙ e in let k : _≡_ {A = ℕ} 0 1 = cc in absurd (omega arith)
+    go (good gs h z) = let w : accepted gs ≡ accepted fs = sym z ∙ e in let k : gs ≡ fs = cc in rw (← k) h
+
+-- ---- places
+
+-- line `at` of these is the first that a judgement refuses; lines are counted from i, and places from 1
+pub record FirstFault (judge : List ℕ → Verdict) (i : ℕ) (ls : List (List ℕ)) (r : Refusal) (place : ℕ) : Type 0 where
+  pub at : ℕ
+  pub counted : place ≡ suc (i + at)
+  pub within : at < length ls
+  pub before : (j : ℕ) → j < at → judge (getD ls j []) ≡ Sound
+  pub here : judge (getD ls at []) ≡ Faulty r
+
+module _ (judge : List ℕ → Verdict) (i : ℕ) (l : List ℕ) (ls : List (List ℕ)) (r : Refusal) (place : ℕ) where
+  first-behind : judge l ≡ Sound → FirstFault judge (suc i) ls r place → FirstFault judge i (l ∷ ls) r place
+  first-behind e f = record { at = suc (f .at); counted = omega (arith, f .counted); within = omega (arith, f .within); before = go; here = f .here }
+    where
+      go : (j : ℕ) → j < suc (f .at) → judge (getD (l ∷ ls) j []) ≡ Sound
+      go zero h = e
+      go (suc j) h = f .before j (omega arith)
+
+pub first-says : (judge : List ℕ → Verdict) (i : ℕ) (ls : List (List ℕ)) (r : Refusal) (place : ℕ) → firstOn judge i ls ≡ Fault r place → FirstFault judge i ls r place
+unfolding firstOn
+first-says judge i [] r place e = not-found (sym e)
+first-says judge i (l ∷ ls) r place e = go (judge l) refl e (first-says judge (suc i) ls r place)
+  where
+    go : (v : Verdict) → judge l ≡ v → foundOn v i (firstOn judge (suc i) ls) ≡ Fault r place → (firstOn judge (suc i) ls ≡ Fault r place → FirstFault judge (suc i) ls r place)
+        → FirstFault judge i (l ∷ ls) r place
+    go Sound p q later = first-behind judge i l ls r place p (later (found-sound i (firstOn judge (suc i) ls) ∙ q))
+    go (Faulty u) p q later =
+        let w : Fault u (suc i) ≡ Fault r place = found-faulty u i (firstOn judge (suc i) ls) ∙ q in
+        let x : u ≡ r = cc in
+        let y : suc i ≡ place = cc in
+        record { at = 0; counted = omega arith; within = omega arith; before = λ j h. absurd (omega arith); here = p ∙ ap Faulty x }
+
+first-is : (judge : List ℕ → Verdict) (i : ℕ) (ls : List (List ℕ)) (r : Refusal) (at : ℕ) → at < length ls → ((j : ℕ) → j < at → judge (getD ls j []) ≡ Sound)
+    → judge (getD ls at []) ≡ Faulty r → firstOn judge i ls ≡ Fault r (suc (i + at))
+unfolding firstOn
+first-is judge i [] r at w b h = absurd (omega arith)
+first-is judge i (l ∷ ls) r zero w b h =
+    let e : suc i ≡ suc (i + 0) = omega arith in
+    ap (λ (v : Verdict). foundOn v i (firstOn judge (suc i) ls)) h ∙ sym (found-faulty r i (firstOn judge (suc i) ls)) ∙ ap (Fault r) e
+first-is judge i (l ∷ ls) r (suc at) w b h =
+    let e : suc (suc i + at) ≡ suc (i + suc at) = omega arith in
+    ap (λ (v : Verdict). foundOn v i (firstOn judge (suc i) ls)) (b 0 (omega arith)) ∙ sym (found-sound i (firstOn judge (suc i) ls))
+    ∙ first-is judge (suc i) ls r at (omega arith) (λ j n. b (suc j) (omega arith)) h ∙ ap (Fault r) e
+
+pub says-first : (judge : List ℕ → Verdict) (i : ℕ) (ls : List (List ℕ)) (r : Refusal) (place : ℕ) → FirstFault judge i ls r place → firstOn judge i ls ≡ Fault r place
+says-first judge i ls r place f = first-is judge i ls r (f .at) (f .within) (f .before) (f .here) ∙ ap (Fault r) (sym (f .counted))
+
+pub sound-clear : (judge : List ℕ → Verdict) (i : ℕ) (ls : List (List ℕ)) → ((j : ℕ) → j < length ls → judge (getD ls j []) ≡ Sound) → firstOn judge i ls ≡ Clear
+unfolding firstOn
+sound-clear judge i [] h = refl
+sound-clear judge i (l ∷ ls) h = ap (λ (v : Verdict). foundOn v i (firstOn judge (suc i) ls)) (h 0 (omega arith)) ∙ sym (found-sound i (firstOn judge (suc i) ls)) ∙ sound-clear judge (suc i) ls (λ j n. h (suc j) (omega arith))
+
+-- the first fault is a line's, or else, where no line has one, a fact's
+pub else-fault : (f g : Finding) (r : Refusal) (place : ℕ) → orElse f g ≡ Fault r place → (f ≡ Fault r place) ⊎ ((f ≡ Clear) × (g ≡ Fault r place))
+unfolding orElse
+else-fault Clear g r place e = inr (refl, e)
+else-fault (Fault q p) g r place e = inl e
+
+pub judged-fault : (f : Statement → Fact) (ls : List (List ℕ)) (r : Refusal) (place : ℕ) → judgedBy f ls ≡ Fault r place
+    → FirstFault (λ l. lineRefusal (lineOf l)) 0 ls r place ⊎ ((firstOn (λ l. lineRefusal (lineOf l)) 0 ls ≡ Clear) × FirstFault (λ l. factRefusal f (said l)) 0 ls r place)
+unfolding judgedBy
+judged-fault f ls r place e =
+    let line : List ℕ → Verdict = λ l. lineRefusal (lineOf l) in
+    let fact : List ℕ → Verdict = λ l. factRefusal f (said l) in
+    ⊎-elim (λ (p : firstOn line 0 ls ≡ Fault r place). inl (first-says line 0 ls r place p))
+    (λ (p : (firstOn line 0 ls ≡ Clear) × (firstOn fact 0 ls ≡ Fault r place)). inr (p .0, first-says fact 0 ls r place (p .1))) (else-fault (firstOn line 0 ls) (firstOn fact 0 ls) r place e)
+
+-- there are no more lines than bytes
+on-first : (x : ℕ) (ls : List (List ℕ)) → length (onFirst x ls) ≤ suc (length ls)
+unfolding onFirst
+on-first x [] = omega arith
+on-first x (l ∷ ls) = omega arith
+
+lines-few : (b : List ℕ) → length (linesOf b) ≤ length b
+unfolding linesOf
+lines-few [] = omega arith
+lines-few (x ∷ b) = by-cases (eqb x 10) (λ e. rw e (omega (arith, lines-few b))) (λ e. rw e (omega (arith, lines-few b, on-first x (linesOf b))))
+
+-- a refusal's place is a line, or 0
+pub import-place : (b : List ℕ) (r : Refusal) (place : ℕ) → importOf b ≡ refused r place → place ≤ 65536
+import-place b r place e = go (import-refused b r place e)
+  where
+    within : {judge : List ℕ → Verdict} {r : Refusal} {place : ℕ} → length b ≤ 65536 → FirstFault judge 0 (linesOf b) r place → place ≤ 65536
+    within h f = omega (arith, f .counted, f .within, lines-few b)
+
+    line : (r : Refusal) (place : ℕ) → length b ≤ 65536 → judged (linesOf b) ≡ Fault r place → place ≤ 65536
+    line r place h e = ⊎-elim (λ f. within h f) (λ f. within h (f .1)) (judged-fault (factOf (knownBy (statements (linesOf b)))) (linesOf b) r place e)
+
+    go : {r : Refusal} {place : ℕ} → Refusing b r place → place ≤ 65536
+    go (large h) = omega arith
+    go (fault {r} {place} h f) = line r place h f
+    go (crowd h f n) = omega arith
+
+pub import-facts : (b : List ℕ) (fs : List Fact) → importOf b ≡ accepted fs → length fs ≤ 1024
+import-facts b fs e = let a = import-accepted b fs e in rw (a .facts) (a .few)
 
 -- ---- the call
 

@@ -36,7 +36,7 @@ empty-index input items =
       ordered = record { room = omega arith; whole = λ i h. absurd (omega arith); rising = λ i h. absurd (omega arith) };
       known = λ i h. absurd (omega arith);
       number = λ i h. absurd (omega arith);
-      all = λ t e. absurd (none-known t e)
+      all = λ t e. absurd (none-known t e);
     }
 
 pub underway-begins : (input items keys : List ℕ) → length input ≤ 65536 → length items ≡ 3075 → length keys ≡ 1025 → Underway input items keys begun 0
@@ -46,15 +46,15 @@ underway-begins input items keys few room places =
       done = [];
       behind = refl;
       gathers =
-        record {
-          few = few;
-          index = empty-index input items;
-          room = room;
-          held = record { count = refl; room = omega arith; keys-of = refl; narrow = λ g m. absurd (List·Memᴰ·not-nil m); ascends = tt };
-          places = places;
-          tokens = omega arith
-        };
-      more = omega arith
+          record {
+            few = few;
+            index = empty-index input items;
+            room = room;
+            held = record { count = refl; room = omega arith; keys-of = refl; narrow = λ g m. absurd (List·Memᴰ·not-nil m); ascends = tt };
+            places = places;
+            tokens = omega arith;
+          };
+      more = omega arith;
     }
 
 -- later statements take no fact away
