@@ -9,6 +9,7 @@ use crate::lines::{self, line, table_bytes, Line, DERIVATION_LINE, QUESTION_LINE
 use crate::parts::{Faithful, Parts};
 use std::cmp::Reverse;
 use std::collections::BTreeSet;
+use std::sync::atomic::{AtomicUsize, Ordering::Relaxed};
 
 pub type Named = (String, Box<dyn Calls>);
 
@@ -54,6 +55,24 @@ pub(crate) use variants;
 /// Variants that choose otherwise among the fillings of the least count, which the papers leave free.
 pub fn free_choices() -> Vec<Named> {
     of_least()
+}
+
+/// Says of each variant, two at a time, which input catches it and how; gives how many are caught by none.
+pub fn missed(names: &[String], caught: impl Fn(&str) -> Option<(usize, String)> + Sync) -> usize {
+    let (next, missed) = (AtomicUsize::new(0), AtomicUsize::new(0));
+    let work = || {
+        while let Some(name) = names.get(next.fetch_add(1, Relaxed)) {
+            match caught(name) {
+                Some((n, difference)) => println!("{name}: caught by input {n}: {}", difference.lines().next().unwrap_or_default()),
+                None => {
+                    println!("{name}: NOT CAUGHT");
+                    missed.fetch_add(1, Relaxed);
+                }
+            }
+        }
+    };
+    std::thread::scope(|scope| (0..2).for_each(|_| drop(scope.spawn(work))));
+    missed.into_inner()
 }
 
 /// Every variant with its name.

@@ -5,11 +5,12 @@ use factbox_tests::facts::*;
 use factbox_tests::generate::Random;
 use factbox_tests::import::compare::compare;
 use factbox_tests::import::reader::{Placed, Plain, Reader, VOCABULARY};
+use factbox_tests::import::systematic::{BLANKS, TEXT};
 use factbox_tests::import::texts::{written, Tokens, Written};
 use factbox_tests::import::{cases, test_inputs, variants};
 use factbox_tests::parts::{Faithful, Parts};
+use factbox_tests::variants::missed;
 use std::collections::BTreeSet;
-use std::sync::atomic::{AtomicUsize, Ordering::Relaxed};
 
 #[test]
 fn it_has_the_cases_written_by_hand() {
@@ -22,6 +23,13 @@ fn it_has_the_cases_written_by_hand() {
         assert!(table == [&case.table[..], &kept].concat(), "table of case {}: {}", i + 1, case.import);
     }
     assert!(cases.len() >= 150, "{} cases", cases.len());
+}
+
+/// The texts that are damaged at every byte: one is accepted, and one has blank nodes alone that are refused.
+#[test]
+fn the_texts_to_damage_are_in_the_subset() {
+    assert_eq!(Plain.table(TEXT).map(|facts| facts.len()), Ok(6));
+    assert_eq!(Plain.table(BLANKS), Err(refused(14, 2)));
 }
 
 /// A token's place among those before it that differ, by looking at each of them.
@@ -117,53 +125,6 @@ fn caught(name: &str) -> Option<(usize, String)> {
 #[test]
 fn every_variant_is_caught() {
     let names: Vec<String> = variants::all().into_iter().map(|(name, _)| name).collect();
-    let (next, missed) = (AtomicUsize::new(0), AtomicUsize::new(0));
-    let work = || {
-        while let Some(name) = names.get(next.fetch_add(1, Relaxed)) {
-            match caught(name) {
-                Some((n, difference)) => println!("{name}: caught by input {n}: {difference}"),
-                None => {
-                    println!("{name}: NOT CAUGHT");
-                    missed.fetch_add(1, Relaxed);
-                }
-            }
-        }
-    };
-    std::thread::scope(|scope| (0..2).for_each(|_| drop(scope.spawn(work))));
-    assert_eq!(missed.into_inner(), 0, "variants not caught");
+    assert_eq!(missed(&names, caught), 0, "variants not caught");
     println!("{} variants, all caught", names.len());
-}
-
-/// The static library against the independent implementation.
-#[cfg(feature = "import")]
-mod library {
-    use super::*;
-    use factbox_tests::calls::Calls;
-    use factbox_tests::import::compare::Import;
-    use factbox_tests::library::Library;
-
-    /// The table that the library writes is accepted by its reading, with the facts that are due, each once and ascending.
-    fn is_read(library: &Library, Import { text, room }: &Import, due: &[Fact]) {
-        let (mut table, mut row) = (vec![0; *room], vec![0; 3 * due.len()]);
-        let answer = library.factbox_import(text, &mut table);
-        assert_eq!(answer, answered(DONE, due.len()).packed());
-        assert_eq!(library.factbox_read(&table[..16 * due.len()], &mut row), answer);
-        assert!(row == due.concat() && due.windows(2).all(|pair| pair[0] < pair[1]), "{due:?}");
-    }
-
-    #[test]
-    fn the_library_imports_as_document_02_says() {
-        let library = Library::from_environment();
-        let (mut count, mut tables) = (0, 0);
-        for input in test_inputs() {
-            compare(&library, &input).unwrap_or_else(|e| panic!("{e}\n{input}"));
-            count += 1;
-            if let Some(facts) = Plain.table(&input.text).ok().filter(|facts| 16 * facts.len() <= input.room) {
-                is_read(&library, &input, &facts);
-                tables += 1;
-            }
-        }
-        println!("{count} texts agree, {tables} of them with a table that reading accepts");
-        assert!(count >= 200_000 && tables >= 50_000, "too few inputs: {count}, {tables}");
-    }
 }

@@ -188,7 +188,7 @@ pub trait Reader {
         Some((statement, self.line_end(self.comment(self.skip(rest)))?))
     }
 
-    /// The refusal of a line that was read: a blank node is its subject or object.
+    /// A blank node is subject or object. Elsewhere it is no statement's.
     fn unknown_node(&self, [subject, _, object]: &Statement) -> bool {
         matches!(subject, Token::Blank(_)) || matches!(object, Token::Blank(_))
     }
@@ -225,6 +225,7 @@ pub trait Reader {
         *numbers.entry(self.compared(token)).or_insert(next)
     }
 
+    /// A token's number. A blank node has none: its line is refused before.
     fn term(&self, names: &mut Numbers, literals: &mut Numbers, token: Token) -> u32 {
         match token {
             Token::Literal(literal) => self.numbered(literals, FIRST_LITERAL, literal),

@@ -306,8 +306,8 @@ fn crowds() -> impl Iterator<Item = Import> {
     })
 }
 
-/// Lines with three tokens each that stand in no other, written by a form from a number; the same again and again, as long as a
-/// text may be; and with a line behind them that is refused.
+/// Lines with many tokens, up to three new ones on each, which a form makes from the line's number; the same again and again, as
+/// long as a text may be; and with a line behind them that is refused.
 fn many_tokens() -> impl Iterator<Item = Import> {
     let forms: [fn(usize) -> String; 7] = [
         |i| format!("<s{i}><p{i}><o{i}>.\n"),

@@ -139,7 +139,7 @@ impl Words {
     }
 }
 
-/// A statement with white space about its tokens. A label that a full stop follows would take it where more follows; here none does.
+/// A statement with white space about its tokens. No byte of a label stands behind the full stop, so that one before it ends there.
 fn laid_out(r: &mut Random, [s, p, o]: &Tokens) -> Vec<u8> {
     [&white(r)[..], s, &white(r), p, &white(r), o, &white(r), b".", &white(r)].concat()
 }
