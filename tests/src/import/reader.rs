@@ -188,7 +188,7 @@ pub trait Reader {
         Some((statement, self.line_end(self.comment(self.skip(rest)))?))
     }
 
-    /// A blank node is subject or object. Elsewhere it is no statement's.
+    /// A blank node is subject or object; elsewhere it is outside the subset.
     fn unknown_node(&self, [subject, _, object]: &Statement) -> bool {
         matches!(subject, Token::Blank(_)) || matches!(object, Token::Blank(_))
     }
