@@ -1,5 +1,6 @@
 //! The calls as C sees them, and the program: what two implementations are compared by.
 use crate::facts::Fact;
+use crate::import::reader::Reader;
 use crate::parts::Parts;
 
 pub trait Calls {
@@ -29,6 +30,17 @@ impl<T: Parts> Calls for T {
     }
     fn factbox(&self, input: &[u8]) -> Vec<u8> {
         self.program(input)
+    }
+}
+
+/// The import as C sees it.
+pub trait ImportCall {
+    fn factbox_import(&self, text: &[u8], table: &mut [u8]) -> u64;
+}
+
+impl<T: Reader> ImportCall for T {
+    fn factbox_import(&self, text: &[u8], table: &mut [u8]) -> u64 {
+        self.import(text, table).packed()
     }
 }
 

@@ -15,7 +15,7 @@ pub enum Input {
 }
 
 /// The first difference found, in words.
-type Verdict = Result<(), String>;
+pub type Verdict = Result<(), String>;
 
 /// Guard values on either side of lent memory, and what stands in it before the call.
 const GUARD: usize = 48;
@@ -25,13 +25,13 @@ fn fill(len: usize, salt: usize) -> impl Iterator<Item = u32> {
 }
 
 /// Calls with lent memory of some length in the midst of guards; gives the answer and all of that memory afterwards.
-fn lend<T: Copy>(mut memory: Vec<T>, call: impl FnOnce(&mut [T]) -> u64) -> (u64, Vec<T>) {
+pub fn lend<T: Copy>(mut memory: Vec<T>, call: impl FnOnce(&mut [T]) -> u64) -> (u64, Vec<T>) {
     let inner = GUARD..memory.len() - GUARD;
     let answer = call(&mut memory[inner]);
     (answer, memory)
 }
 
-fn bytes(len: usize, salt: usize) -> Vec<u8> {
+pub fn bytes(len: usize, salt: usize) -> Vec<u8> {
     fill(len, salt).map(|n| n as u8).collect()
 }
 
@@ -62,7 +62,7 @@ fn same_answer(expected: u64, found: u64) -> Verdict {
     Err(format!("answer {} where {} is due", words(found), words(expected)))
 }
 
-fn same<T: PartialEq>(expected: (u64, Vec<T>), found: (u64, Vec<T>)) -> Verdict {
+pub fn same<T: PartialEq>(expected: (u64, Vec<T>), found: (u64, Vec<T>)) -> Verdict {
     same_answer(expected.0, found.0)?;
     match expected.1.iter().zip(&found.1).position(|(e, f)| e != f) {
         Some(i) => Err(format!("lent memory at {} is not as laid down", i as isize - GUARD as isize)),

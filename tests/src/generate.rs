@@ -244,7 +244,7 @@ fn any_table_bytes(r: &mut Random, facts: &[Fact]) -> Vec<u8> {
 }
 
 /// About the length that is needed.
-fn any_room(r: &mut Random, need: usize) -> usize {
+pub fn any_room(r: &mut Random, need: usize) -> usize {
     match r.below(8) {
         0 => need.saturating_sub(1),
         1 => need + r.below(100),

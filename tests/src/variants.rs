@@ -9,37 +9,70 @@ use crate::lines::{self, line, table_bytes, Line, DERIVATION_LINE, QUESTION_LINE
 use crate::parts::{Faithful, Parts};
 use std::cmp::Reverse;
 use std::collections::BTreeSet;
+use std::sync::atomic::{AtomicUsize, Ordering::Relaxed};
 
 pub type Named = (String, Box<dyn Calls>);
 
 /// Variants that try everything are faithful on tables of more facts.
 const SMALL: usize = 12;
 
-/// Variants that replace one and the same method: its signature, then a name and a body for each; and the list of them. They
-/// are of one type, with the body in it, so that all the other methods are compiled once.
+/// Variants that replace one and the same method of a trait: its signature, then a name and a body for each; and the list of
+/// them. They are of one type, with the body in it, so that all the other methods are compiled once.
 macro_rules! variants {
-    ($list:ident: $method:ident $arguments:tt -> $result:ty; $($name:ident => $body:expr,)+) => {
+    ($list:ident: $($rest:tt)+) => {
+        variants! { $list in Parts: $($rest)+ }
+    };
+    ($list:ident in $trait:ident: $method:ident<$life:lifetime> $($rest:tt)+) => {
+        variants! { @list $list $trait $method [$life] $($rest)+ }
+    };
+    ($list:ident in $trait:ident: $method:ident $($rest:tt)+) => {
+        variants! { @list $list $trait $method [] $($rest)+ }
+    };
+    (@list $list:ident $trait:ident $method:ident $life:tt $arguments:tt -> $result:ty; $($name:ident => $body:expr,)+) => {
         fn $list() -> Vec<Named> {
-            variants!(@type $method $arguments -> $result);
+            variants!(@type $trait $method $life $arguments -> $result);
             vec![$((stringify!($name).to_string(), Box::new(variants!(@of $arguments $body)))),+]
         }
     };
-    (@type $method:ident(&self, $($argument:ident: $type:ty),+) -> $result:ty) => {
-        struct Replaced(fn($($type),+) -> $result);
-        impl Parts for Replaced {
-            fn $method(&self, $($argument: $type),+) -> $result {
+    (@type $trait:ident $method:ident [$($life:lifetime)?] (&self, $($argument:ident: $type:ty),+) -> $result:ty) => {
+        struct Replaced($(for<$life>)? fn($($type),+) -> $result);
+        impl $trait for Replaced {
+            fn $method$(<$life>)?(&self, $($argument: $type),+) -> $result {
                 (self.0)($($argument),+)
             }
         }
     };
     (@of (&self, $($argument:ident: $type:ty),+) $body:expr) => {
-        Replaced(|$($argument),+| $body)
+        Replaced(|$($argument),+| {
+            // not every body uses each of them
+            $(let _ = &$argument;)+
+            $body
+        })
     };
 }
+pub(crate) use variants;
 
 /// Variants that choose otherwise among the fillings of the least count, which the papers leave free.
 pub fn free_choices() -> Vec<Named> {
     of_least()
+}
+
+/// Says of each variant, two at a time, which input catches it and how; gives how many are caught by none.
+pub fn missed(names: &[String], caught: impl Fn(&str) -> Option<(usize, String)> + Sync) -> usize {
+    let (next, missed) = (AtomicUsize::new(0), AtomicUsize::new(0));
+    let work = || {
+        while let Some(name) = names.get(next.fetch_add(1, Relaxed)) {
+            match caught(name) {
+                Some((n, difference)) => println!("{name}: caught by input {n}: {}", difference.lines().next().unwrap_or_default()),
+                None => {
+                    println!("{name}: NOT CAUGHT");
+                    missed.fetch_add(1, Relaxed);
+                }
+            }
+        }
+    };
+    std::thread::scope(|scope| (0..2).for_each(|_| drop(scope.spawn(work))));
+    missed.into_inner()
 }
 
 /// Every variant with its name.

@@ -80,3 +80,39 @@ fn which_blank_stands_in_the_gap_does_not_matter() {
         }
     }
 }
+
+#[cfg(feature = "import")]
+mod imports {
+    use super::*;
+    use factbox_tests::calls::ImportCall;
+    use factbox_tests::facts::{answered, Fact, DONE};
+    use factbox_tests::import::compare::{compare, Import};
+    use factbox_tests::import::reader::{Plain, Reader};
+    use factbox_tests::import::test_inputs;
+    use factbox_tests::lines::TABLE_LINE;
+
+    /// The table that the library writes is accepted by its reading, with the facts that are due, each once and ascending.
+    fn is_read(library: &Library, Import { text, room }: &Import, due: &[Fact]) {
+        let (mut table, mut row) = (vec![0; *room], vec![0; 3 * due.len()]);
+        let answer = library.factbox_import(text, &mut table);
+        assert_eq!(answer, answered(DONE, due.len()).packed());
+        assert_eq!(library.factbox_read(&table[..TABLE_LINE * due.len()], &mut row), answer);
+        assert!(row == due.concat() && due.windows(2).all(|pair| pair[0] < pair[1]), "{due:?}");
+    }
+
+    #[test]
+    fn the_library_imports_as_document_02_says() {
+        let library = Library::from_environment();
+        let (mut count, mut tables) = (0, 0);
+        for input in test_inputs() {
+            compare(&library, &input).unwrap_or_else(|e| panic!("{e}\n{input}"));
+            count += 1;
+            if let Some(facts) = Plain.table(&input.text).ok().filter(|facts| TABLE_LINE * facts.len() <= input.room) {
+                is_read(&library, &input, &facts);
+                tables += 1;
+            }
+        }
+        println!("{count} texts to import agree, {tables} of them with a table that reading accepts");
+        assert!(count >= 200_000 && tables >= 50_000, "too few inputs: {count}, {tables}");
+    }
+}

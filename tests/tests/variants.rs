@@ -2,9 +2,8 @@
 use factbox_tests::calls::AnyChoice;
 use factbox_tests::compare::compare;
 use factbox_tests::generate::test_inputs;
-use factbox_tests::variants::{all, free_choices};
+use factbox_tests::variants::{all, free_choices, missed};
 use factbox_tests::{cases, gaps};
-use std::sync::atomic::{AtomicUsize, Ordering::Relaxed};
 
 /// The papers leave it free which of the least fillings is named, and nothing else: one that need not make the same choice
 /// passes with another, and not with a filling that is none of them.
@@ -30,19 +29,6 @@ fn caught(name: &str) -> Option<(usize, String)> {
 #[test]
 fn every_variant_is_caught() {
     let names: Vec<String> = all().into_iter().map(|(name, _)| name).collect();
-    let (next, missed) = (AtomicUsize::new(0), AtomicUsize::new(0));
-    let work = || {
-        while let Some(name) = names.get(next.fetch_add(1, Relaxed)) {
-            match caught(name) {
-                Some((n, difference)) => println!("{name}: caught by input {n}: {}", difference.lines().next().unwrap_or_default()),
-                None => {
-                    println!("{name}: NOT CAUGHT");
-                    missed.fetch_add(1, Relaxed);
-                }
-            }
-        }
-    };
-    std::thread::scope(|scope| (0..2).for_each(|_| drop(scope.spawn(work))));
-    assert_eq!(missed.into_inner(), 0, "variants not caught");
+    assert_eq!(missed(&names, caught), 0, "variants not caught");
     println!("{} variants, all caught", names.len());
 }
