@@ -2,7 +2,6 @@
 //! `fuzz SEED INPUTS`
 use factbox_tests::compare::compare;
 use factbox_tests::generate::random_inputs;
-#[cfg(feature = "import")]
 use factbox_tests::import;
 use factbox_tests::library::Library;
 use std::fmt::Display;
@@ -27,7 +26,6 @@ fn main() {
     let mut words = std::env::args().skip(1).map(|w| w.parse::<u64>().expect("fuzz SEED INPUTS: two numbers"));
     let (seed, count) = (words.next().unwrap_or(1), words.next().unwrap_or(1_000_000) as usize);
     let library = Library::from_environment();
-    #[cfg(feature = "import")]
     run(seed, import::random_inputs(seed, count), |input| import::compare::compare(&library, input));
     run(seed, random_inputs(seed, count), |input| compare(&library, input));
 }

@@ -1,6 +1,5 @@
 //! The static library through its C interface, and the program `factbox` through standard input and output.
 use crate::calls::Calls;
-#[cfg(feature = "import")]
 use crate::calls::ImportCall;
 use crate::facts::Fact;
 use std::io::{Read, Write};
@@ -12,7 +11,6 @@ extern "C" {
     fn factbox_check(table: *const u8, table_len: usize, s: u32, p: u32, o: u32, derivation: *const u8, derivation_len: usize) -> u64;
     fn factbox_read(table: *const u8, table_len: usize, row: *mut u32, row_len: usize) -> u64;
     fn factbox_write(row: *const u32, row_len: usize, output: *mut u8, output_len: usize) -> u64;
-    #[cfg(feature = "import")]
     fn factbox_import(text: *const u8, text_len: usize, table: *mut u8, table_len: usize) -> u64;
 }
 
@@ -64,7 +62,6 @@ impl Calls for Library {
     }
 }
 
-#[cfg(feature = "import")]
 impl ImportCall for Library {
     fn factbox_import(&self, text: &[u8], table: &mut [u8]) -> u64 {
         unsafe { factbox_import(text.as_ptr(), text.len(), table.as_mut_ptr(), table.len()) }

@@ -81,7 +81,6 @@ fn which_blank_stands_in_the_gap_does_not_matter() {
     }
 }
 
-#[cfg(feature = "import")]
 mod imports {
     use super::*;
     use factbox_tests::calls::ImportCall;
