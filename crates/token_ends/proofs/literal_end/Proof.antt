@@ -1,15 +1,12 @@
 -- `token_ends::literal_end` meets its contract.
 -- Assumes nothing.
-use mathlib.Core.Path.{_≡_, refl, sym, ap, _∙_}
-use Prim.Native.Nat.{ℕ, _+_, _-_, _≤_, _<_}
+use mathlib.Core.Path.{_≡_, sym, ap, _∙_}
+use Prim.Native.Nat.{ℕ, _+_}
 use native.Mathlib.Omega.{arith}
-use lib.ListN.{length}
-use lib.Dec.{leb, eqb}
-use borrow.Author.Tests.{eq-eqb, ne-eqb, le-leb, lt-leb}
 use denote.Ref.{now}
-use Rattle.ntriples.specs.declared.Class.the-variants.{Iri, Quoted, Label, White, Comment}
-use Rattle.ntriples.specs.Lexed.{byteAt, runEnd, iriEnd, suffixEnd, literalEnd, trimmed, blankEnd, subjectEnd, objectEnd, ends, stops, fromObject, fromPredicate, fromSubject, lineOf}
-use Rattle.ntriples.proofs.Lexed.{inside, sits, literal-unopened, literal-unclosed, literal-some, trim-stops, trim-goes-on}
+use Rattle.ntriples.specs.declared.Class.the-variants.{Quoted}
+use Rattle.ntriples.specs.Lexed.{byteAt, runEnd, suffixEnd}
+use Rattle.ntriples.proofs.Lexed.{sits, literal-unopened, literal-unclosed, literal-some}
 use Rattle.token_ends.proofs.literal_end.Statement.{statement}
 use Rattle.token_ends.proofs.literal_end.Tie as tie
 

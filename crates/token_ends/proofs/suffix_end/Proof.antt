@@ -1,9 +1,8 @@
 -- `token_ends::suffix_end` meets its contract.
 -- Assumes nothing.
-use mathlib.Core.Path.{_≡_, sym, ap, _∙_}
-use Prim.Native.Nat.{ℕ, _+_, _<_}
+use mathlib.Core.Path.{_≡_, sym, _∙_}
+use Prim.Native.Nat.{_+_}
 use native.Mathlib.Omega.{arith}
-use lib.ListN.{length}
 use denote.Ref.{now}
 use Rattle.ntriples.specs.Lexed.{byteAt}
 use Rattle.ntriples.proofs.Lexed.{sits, suffix-tag, suffix-none, suffix-half, suffix-type}

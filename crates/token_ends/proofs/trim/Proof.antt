@@ -1,15 +1,10 @@
 -- `token_ends::trim` meets its contract. The loop's invariant: between i and the start stand only full stops.
 -- Assumes nothing.
 use mathlib.Core.Path.{_≡_, refl, sym, ap, _∙_}
-use Prim.Native.Nat.{ℕ, _+_, _-_, _≤_, _<_}
 use native.Mathlib.Omega.{arith}
-use lib.ListN.{length}
-use lib.Dec.{leb, eqb}
-use borrow.Author.Tests.{eq-eqb, ne-eqb, le-leb, lt-leb}
 use denote.Ref.{now}
-use Rattle.ntriples.specs.declared.Class.the-variants.{Iri, Quoted, Label, White, Comment}
-use Rattle.ntriples.specs.Lexed.{byteAt, runEnd, iriEnd, suffixEnd, literalEnd, trimmed, blankEnd, subjectEnd, objectEnd, ends, stops, fromObject, fromPredicate, fromSubject, lineOf}
-use Rattle.ntriples.proofs.Lexed.{inside, sits, literal-unopened, literal-unclosed, literal-some, trim-stops, trim-goes-on}
+use Rattle.ntriples.specs.Lexed.{trimmed}
+use Rattle.ntriples.proofs.Lexed.{trim-stops, trim-goes-on}
 use Rattle.token_ends.proofs.trim.Statement.{statement}
 use Rattle.token_ends.proofs.trim.Tie as tie
 
