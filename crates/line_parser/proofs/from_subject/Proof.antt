@@ -11,7 +11,9 @@ subject-end-requires : tie.Need-subject-end-requires
 subject-end-requires c κs = tt
 
 returns : tie.Need-returns
-returns c = subject-none (now (c .before .before .before .args .s)) (c .before .before .before .args .at) (c .before .subject-end .result) (c .before .subject-end .ensures) (c .if1 .taken)
+returns c =
+    let a = c .before .before .before .args in
+    subject-none (now (a .s)) (a .at) (c .before .subject-end .result) (c .before .subject-end .ensures) (c .if1 .taken)
 
 run-end-requires : tie.Need-run-end-requires
 run-end-requires c κs = tt
@@ -20,7 +22,11 @@ from-predicate-requires : tie.Need-from-predicate-requires
 from-predicate-requires c κs = tt
 
 returns-2 : tie.Need-returns-2
-returns-2 c = c .from-predicate .ensures ∙ ap (fromPredicate (now (c .before .before .before .before .before .args .s)) (span (c .before .before .before .before .before .args .at) (c .before .before .before .subject-end .result))) (c .before .run-end .ensures) ∙ subject-some (now (c .before .before .before .before .before .args .s)) (c .before .before .before .before .before .args .at) (c .before .before .before .subject-end .result) (c .before .before .before .subject-end .ensures) (c .before .before .if1 .left)
+returns-2 c =
+    let a = c .before .before .before .before .before .args in
+    let o = c .before .before .before .subject-end in
+    c .from-predicate .ensures ∙ ap (fromPredicate (now (a .s)) (span (a .at) (o .result))) (c .before .run-end .ensures)
+    ∙ subject-some (now (a .s)) (a .at) (o .result) (o .ensures) (c .before .before .if1 .left)
 
 pub from-subject-spec : {M : Type 1} → statement M
 from-subject-spec =

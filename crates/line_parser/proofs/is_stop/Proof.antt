@@ -1,9 +1,9 @@
 -- `line_parser::is_stop` meets its contract.
 -- Assumes nothing.
-use mathlib.Core.Path.{sym, ap, _∙_}
+use mathlib.Core.Path.{_≡_, sym, ap, _∙_}
 use native.Mathlib.Omega.{arith}
 use denote.Ref.{now}
-use Rattle.ntriples.specs.Lexed.{ends}
+use Rattle.ntriples.specs.Lexed.{byteAt, ends}
 use Rattle.ntriples.proofs.Lexed.{sits}
 use Rattle.ntriples.proofs.Lines.{stops-not, stops-some}
 use Rattle.line_parser.proofs.is_stop.Statement.{statement}
@@ -13,10 +13,13 @@ byte-at-requires : tie.Need-byte-at-requires
 byte-at-requires c κs = tt
 
 returns : tie.Need-returns
-returns c = sym (stops-not (now (c .before .before .before .args .s)) (c .before .before .before .args .at) (λ e. c .if1 .taken (c .before .byte-at .ensures ∙ e)))
+returns c = let a = c .before .before .before .args in sym (stops-not (now (a .s)) (a .at) (λ e. c .if1 .taken (c .before .byte-at .ensures ∙ e)))
+
+stopped : (c : tie.Else1) → let a = c .before .before .before .args in byteAt (now (a .s)) (a .at) ≡ 46
+stopped c = sym (c .before .byte-at .ensures) ∙ c .if1 .left
 
 add-run-end : tie.Need-add-run-end
-add-run-end c = omega (arith, sits (now (c .before .before .before .args .s)) (c .before .before .before .args .at) 46 (sym (c .before .byte-at .ensures) ∙ c .if1 .left) (λ e. omega arith))
+add-run-end c = let a = c .before .before .before .args in omega (arith, sits (now (a .s)) (a .at) 46 (stopped c) (λ e. omega arith))
 
 run-end-requires : tie.Need-run-end-requires
 run-end-requires c κs = tt
@@ -25,7 +28,9 @@ is-end-requires : tie.Need-is-end-requires
 is-end-requires c κs = tt
 
 returns-2 : tie.Need-returns-2
-returns-2 c = c .is-end .ensures ∙ ap (ends (now (c .before .before .before .before .before .args .s))) (c .before .run-end .ensures) ∙ sym (stops-some (now (c .before .before .before .before .before .args .s)) (c .before .before .before .before .before .args .at) (sym (c .before .before .before .byte-at .ensures) ∙ c .before .before .if1 .left))
+returns-2 c =
+    let a = c .before .before .before .before .before .args in
+    c .is-end .ensures ∙ ap (ends (now (a .s))) (c .before .run-end .ensures) ∙ sym (stops-some (now (a .s)) (a .at) (stopped (c .before .before)))
 
 pub is-stop-spec : {M : Type 1} → statement M
 is-stop-spec =

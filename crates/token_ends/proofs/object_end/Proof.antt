@@ -13,13 +13,17 @@ literal-end-requires : tie.Need-literal-end-requires
 literal-end-requires c κs = tt
 
 returns : tie.Need-returns
-returns c = c .literal-end .ensures ∙ sym (object-literal (now (c .before .before .before .before .args .s)) (c .before .before .before .before .args .at) (sym (c .before .before .byte-at .ensures) ∙ c .before .if1 .taken))
+returns c =
+    let a = c .before .before .before .before .args in
+    c .literal-end .ensures ∙ sym (object-literal (now (a .s)) (a .at) (sym (c .before .before .byte-at .ensures) ∙ c .before .if1 .taken))
 
 subject-end-requires : tie.Need-subject-end-requires
 subject-end-requires c κs = tt
 
 returns-2 : tie.Need-returns-2
-returns-2 c = c .subject-end .ensures ∙ sym (object-other (now (c .before .before .before .before .args .s)) (c .before .before .before .before .args .at) (λ e. c .before .if1 .left (c .before .before .byte-at .ensures ∙ e)))
+returns-2 c =
+    let a = c .before .before .before .before .args in
+    c .subject-end .ensures ∙ sym (object-other (now (a .s)) (a .at) (λ e. c .before .if1 .left (c .before .before .byte-at .ensures ∙ e)))
 
 pub object-end-spec : {M : Type 1} → statement M
 object-end-spec =

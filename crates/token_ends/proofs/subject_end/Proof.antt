@@ -13,13 +13,17 @@ blank-end-requires : tie.Need-blank-end-requires
 blank-end-requires c κs = tt
 
 returns : tie.Need-returns
-returns c = c .blank-end .ensures ∙ sym (subject-blank (now (c .before .before .before .before .args .s)) (c .before .before .before .before .args .at) (sym (c .before .before .byte-at .ensures) ∙ c .before .if1 .taken))
+returns c =
+    let a = c .before .before .before .before .args in
+    c .blank-end .ensures ∙ sym (subject-blank (now (a .s)) (a .at) (sym (c .before .before .byte-at .ensures) ∙ c .before .if1 .taken))
 
 iri-end-requires : tie.Need-iri-end-requires
 iri-end-requires c κs = tt
 
 returns-2 : tie.Need-returns-2
-returns-2 c = c .iri-end .ensures ∙ sym (subject-iri (now (c .before .before .before .before .args .s)) (c .before .before .before .before .args .at) (λ e. c .before .if1 .left (c .before .before .byte-at .ensures ∙ e)))
+returns-2 c =
+    let a = c .before .before .before .before .args in
+    c .iri-end .ensures ∙ sym (subject-iri (now (a .s)) (a .at) (λ e. c .before .if1 .left (c .before .before .byte-at .ensures ∙ e)))
 
 pub subject-end-spec : {M : Type 1} → statement M
 subject-end-spec =
