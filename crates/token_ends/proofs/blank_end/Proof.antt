@@ -8,7 +8,7 @@ use lib.Dec.{eqb}
 use denote.Ref.{now}
 use Rattle.ntriples.specs.Lexed.{byteAt, trimmed, beginsLabel}
 use Rattle.ntriples.proofs.Lexed.{sits}
-use Rattle.ntriples.proofs.Lines.{blank-unopened, blank-half, blank-bare, blank-some, begins}
+use Rattle.ntriples.proofs.Lines.{blank-unopened, blank-half, blank-bare, blank-some, begins-label}
 use Rattle.token_ends.proofs.blank_end.Statement.{statement}
 use Rattle.token_ends.proofs.blank_end.Tie as tie
 
@@ -49,7 +49,7 @@ is-of-requires c κs = tt
 -- the test of the label's first byte, as the code has it
 first : (c : tie.After-is-of) (t : Bool) → (not (c .is-of .result) || eqb (c .before .byte-at3 .result) 45) || eqb (c .before .byte-at3 .result) 46 ≡ t
     → let a = c .before .before .before .before .before .before .before .args in beginsLabel (byteAt (now (a .s)) (a .at + 2)) ≡ not t
-first c t e = ap beginsLabel (sym (c .before .byte-at3 .ensures)) ∙ begins (c .before .byte-at3 .result) t (rw (← c .is-of .ensures) e)
+first c t e = ap beginsLabel (sym (c .before .byte-at3 .ensures)) ∙ begins-label (c .before .byte-at3 .result) t (rw (← c .is-of .ensures) e)
 
 returns-3 : tie.Need-returns-3
 returns-3 c =
