@@ -1,10 +1,10 @@
 -- The end of a line, both ways: nothing, or a comment.
 -- Assumes nothing.
-use mathlib.Core.Path.{_≡_, refl, sym, ap, _∙_}
-use mathlib.Core.Logic.{_⊎_, inl, inr, ⊎-elim}
+use mathlib.Core.Path.{_≡_, sym, ap, _∙_}
+use mathlib.Core.Logic.{inl, inr, ⊎-elim}
 use mathlib.Core.Bool.{Bool, true, false}
-use mathlib.Core.List.{List, [], _∷_, _++_, append-nil}
-use Prim.Native.Nat.{ℕ, _+_, _≤_, _<_}
+use mathlib.Core.List.{List, [], _++_, append-nil}
+use Prim.Native.Nat.{ℕ, _+_, _≤_}
 use native.Mathlib.Omega.{arith}
 use lib.ListN.{length, drop, length-drop, drop-of-length-le, List·getD-eq-default}
 use lib.Dec.{eqb, leb}
@@ -12,7 +12,7 @@ use borrow.Author.Tests.{eqb-true, eqb-false, leb-true, leb-false, le-leb}
 use Rattle.facts.proofs.Terms.{by-cases}
 use Rattle.ntriples.specs.declared.Class.the-variants.{White, Comment}
 use Rattle.ntriples.specs.Classes.{belongs}
-use Rattle.ntriples.specs.Grammar.{Grammar, nothing, byte, then, Of, rest}
+use Rattle.ntriples.specs.Grammar.{Grammar, byte, then, Of, rest}
 use Rattle.ntriples.specs.Lexed.{byteAt, runEnd, ends, stops}
 use Rattle.ntriples.proofs.Lexed.{sits, never, no-line-end}
 use Rattle.ntriples.proofs.Lines.{ends-over, ends-not, ends-comment, stops-not, stops-some}

@@ -1,7 +1,7 @@
 -- Literals, both ways.
 -- Assumes nothing.
 use mathlib.Core.Path.{_≡_, refl, sym, ap, _∙_}
-use mathlib.Core.Logic.{_⊎_, inl, inr, ⊎-elim}
+use mathlib.Core.Logic.{inl, inr, ⊎-elim}
 use mathlib.Core.List.{List}
 use Prim.Native.Nat.{ℕ, _+_}
 use native.Mathlib.Omega.{arith}
@@ -10,8 +10,8 @@ use borrow.Author.Tests.{eqb-true, eqb-false}
 use Rattle.facts.proofs.Terms.{by-cases}
 use Rattle.ntriples.specs.declared.Class.the-variants.{Quoted}
 use Rattle.ntriples.specs.Classes.{belongs}
-use Rattle.ntriples.specs.Grammar.{Grammar, nothing, byte, then, or, Of, iri, tag, quoted, datatype, literal, perhaps}
-use Rattle.ntriples.specs.Lexed.{byteAt, runEnd, iriEnd, tagEnd, suffixEnd, literalEnd}
+use Rattle.ntriples.specs.Grammar.{Grammar, nothing, or, Of, tag, quoted, datatype, literal, perhaps}
+use Rattle.ntriples.specs.Lexed.{byteAt, runEnd, iriEnd, suffixEnd, literalEnd}
 use Rattle.ntriples.proofs.Lexed.{suffix-tag, suffix-none, suffix-half, suffix-type, literal-unopened, literal-unclosed, literal-some}
 use Rattle.ntriples.proofs.Stands.{Stands, stands-nothing, stands-byte, stands-then, stands-as, then-stands, byte-then, or-stands, nothing-stands}
 use Rattle.ntriples.proofs.Runs.{enclosed-read, enclosed-found, iri-read, iri-found}

@@ -1,32 +1,30 @@
 -- How a line is read is what the grammar says of it, for all four outcomes.
 -- Assumes nothing.
 use mathlib.Core.Path.{_≡_, refl, sym, ap, _∙_}
-use mathlib.Core.Logic.{_⊎_, inl, inr, ⊎-elim, _↔_}
+use mathlib.Core.Logic.{_⊎_, inl, inr, ⊎-elim}
 use mathlib.Core.Bool.{Bool, true, false, cond, _||_}
 use mathlib.Core.List.{List}
-use Prim.Native.Nat.{ℕ, _+_, _<_}
+use Prim.Native.Nat.{ℕ, _<_}
 use native.Mathlib.Omega.{arith}
 use lib.ListN.{length, drop}
-use lib.Dec.{T, eqb}
-use mir.Facts.{or-yes}
+use lib.Dec.{eqb}
 use borrow.Author.Tests.{eqb-false}
-use Rattle.facts.proofs.Terms.{by-cases, T-of, of-T, neither}
 use Rattle.ntriples.specs.declared.Class.the-variants.{White}
 use Rattle.ntriples.specs.declared.Span.{Span}
 use Rattle.ntriples.specs.declared.Line.{Line}
 use Rattle.ntriples.specs.declared.Line.the-variants.{Outside, Unknown, Nothing, Triple}
 use Rattle.ntriples.specs.Classes.{belongs}
-use Rattle.ntriples.specs.Grammar.{or, Of, iri, literal, blank, white, rest, subject, object, Says, Silent}
+use Rattle.ntriples.specs.Grammar.{or, Of, iri, literal, blank, white, rest, subject, object, Silent}
 use Rattle.ntriples.specs.Lexed.{byteAt, runEnd, ends, isBlank, lineOf}
 use Rattle.ntriples.specs.Outcomes.{NamesBlank, States, Strays, ReadAs, Outcomes}
 use Rattle.ntriples.specs.Tokens.{Token, spanned}
 use Rattle.ntriples.proofs.Lexed.{inside, never}
 use Rattle.ntriples.proofs.Lines.{ends-not, line-nothing}
-use Rattle.ntriples.proofs.Stands.{Stands, front, stands-part}
+use Rattle.ntriples.proofs.Stands.{front, stands-part}
 use Rattle.ntriples.proofs.Runs.{run-read, run-found}
 use Rattle.ntriples.proofs.Nodes.{Kind, blank-tells, subject-kind, object-kind, subject-opens}
 use Rattle.ntriples.proofs.Ends.{ends-read, ends-found, rest-fails}
-use Rattle.ntriples.proofs.Parts.{Parts, Parsed, blanks, parsed, parts-line}
+use Rattle.ntriples.proofs.Parts.{Parsed, blanks, parsed, parts-line}
 use Rattle.ntriples.proofs.Told.{Told, told-read, told-found}
 
 module _ {l : List ℕ} {a b c : Span} {s p o : Token} (t : Told l a b c s p o) where
@@ -47,15 +45,11 @@ module _ {l : List ℕ} {a b c : Span} {s p o : Token} (t : Told l a b c s p o) 
   told-object : spanned l c ≡ o
   told-object = stands-part (t .object-stands) ∙ t .object-token
 
-  -- the first bytes tell whether it names a blank node
-  blank-subject : Of blank s → isBlank l (a .from) ≡ true
-  blank-subject h = blank-tells (t .subject-stands) (rw (t .subject-token) h)
-
-  blank-object : Of blank o → isBlank l (c .from) ≡ true
-  blank-object h = blank-tells (t .object-stands) (rw (t .object-token) h)
-
+  -- it names a blank node if the first byte of its subject or object says so, and only then
   blank-named : Of blank s ⊎ Of blank o → blanks l a c ≡ true
-  blank-named = ⊎-elim (λ k. rw (blank-subject k)) (λ k. rw (blank-object k) (either (isBlank l (a .from))))
+  blank-named =
+      ⊎-elim (λ k. rw (blank-tells (t .subject-stands) (rw (t .subject-token) k)))
+      (λ k. rw (blank-tells (t .object-stands) (rw (t .object-token) k)) (either (isBlank l (a .from))))
     where
       either : (x : Bool) → x || true ≡ true
       either true = refl
@@ -67,50 +61,42 @@ module _ {l : List ℕ} {a b c : Span} {s p o : Token} (t : Told l a b c s p o) 
   kind-object : Kind (or iri literal) o l (c .from)
   kind-object = rw (← t .object-token) (object-kind (t .object-stands))
 
+  none-named : (Of blank s → ⊥) → (Of blank o → ⊥) → blanks l a c ≡ false
+  none-named h k = ⊎-elim (λ x. ⊎-elim (λ y. rw (x .1, y .1)) (λ y. absurd (k (y .0))) kind-object) (λ x. absurd (h (x .0))) kind-subject
+
+  named-blank : blanks l a c ≡ true → Of blank s ⊎ Of blank o
+  named-blank e = ⊎-elim (λ x. ⊎-elim (λ y. never (let z : blanks l a c ≡ false = rw (x .1, y .1) in sym z ∙ e)) (λ y. inr (y .0)) kind-object) (λ x. inl (x .0)) kind-subject
+
 -- ---- a statement of IRIs and perhaps a literal
 
 read-states : (l : List ℕ) (s p o : Token) → ReadAs l s p o → States l s p o
 read-states l s p o r =
     let q : Parsed l (Triple (r .a) (r .b) (r .c)) = rw (r .line) at (parsed l) in
-    let n = neither (isBlank l (r .a .from)) (isBlank l (r .c .from)) (rw (q .1) tt) in
     let (s′, p′, o′, t) = told-read l (r .a) (r .b) (r .c) (q .0) in
     let e : s′ ≡ s = sym (told-subject t) ∙ r .subject in
     let f : p′ ≡ p = sym (told-predicate t) ∙ r .predicate in
     let g : o′ ≡ o = sym (told-object t) ∙ r .object in
     record {
       says = rw (← e, ← f, ← g) (t .says);
-      subject = λ h. never (sym (n .0) ∙ blank-subject t (rw e h));
-      object = λ h. never (sym (n .1) ∙ blank-object t (rw g h));
+      subject = λ h. never (sym (q .1) ∙ blank-named t (inl (rw e h)));
+      object = λ h. never (sym (q .1) ∙ blank-named t (inr (rw g h)));
     }
 
 states-read : (l : List ℕ) (s p o : Token) → States l s p o → ReadAs l s p o
 states-read l s p o h =
     let (a, b, c, t) = told-found l s p o (h .says) in
-    let e : isBlank l (a .from) ≡ false = ⊎-elim (λ k. k .1) (λ k. absurd (h .subject (k .0))) (kind-subject t) in
-    let f : isBlank l (c .from) ≡ false = ⊎-elim (λ k. k .1) (λ k. absurd (h .object (k .0))) (kind-object t) in
-    record { a = a; b = b; c = c; line = told-line t ∙ rw (e, f); subject = told-subject t; predicate = told-predicate t; object = told-object t }
+    record { a = a; b = b; c = c; line = told-line t ∙ rw (none-named t (h .subject) (h .object)); subject = told-subject t; predicate = told-predicate t; object = told-object t }
 
 -- ---- a statement that names a blank node
 
 unknown-names : (l : List ℕ) → lineOf l ≡ Unknown → NamesBlank l
 unknown-names l e =
-    let q : Parsed l Unknown = rw e at (parsed l) in
-    let a = q .0 in
-    let c = q .2 in
-    let (s, p, o, t) = told-read l a (q .1) c (q .3) in (
-      s,
-      p,
-      o,
-      t .says,
-      ⊎-elim (λ (y : T (isBlank l (a .from))). inl (⊎-elim (λ k. never (sym (k .1) ∙ of-T (isBlank l (a .from)) y)) (λ k. k .0) (kind-subject t)))
-          (λ (y : T (isBlank l (c .from))). inr (⊎-elim (λ k. never (sym (k .1) ∙ of-T (isBlank l (c .from)) y)) (λ k. k .0) (kind-object t)))
-          (or-yes (isBlank l (a .from)) (isBlank l (c .from)) (T-of (blanks l a c) (q .4))),
-    )
+    let (a, b, c, q, f) = rw e at (parsed l) in
+    let (s, p, o, t) = told-read l a b c q in
+    (s, p, o, t .says, named-blank t f)
 
 names-unknown : (l : List ℕ) → NamesBlank l → lineOf l ≡ Unknown
-names-unknown l (s, p, o, h, n) =
-    let (a, b, c, t) = told-found l s p o h in
-    told-line t ∙ rw (blank-named t n)
+names-unknown l (s, p, o, h, n) = let (a, b, c, t) = told-found l s p o h in told-line t ∙ rw (blank-named t n)
 
 -- ---- nothing
 

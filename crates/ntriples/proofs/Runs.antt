@@ -86,10 +86,10 @@ iri-read s at h =
     (λ q.
     let o = eqb-true (byteAt s at) 60 p in
     let c = eqb-true (byteAt s e) 62 q in
-    rw (← iri-some s at o c) (enclosed-read 60 62 Iri s at (omega arith) (omega arith) o c))
-    (λ q. absurd (h (sym (iri-unclosed s at (eqb-true (byteAt s at) 60 p) (eqb-false (byteAt s e) 62 q))))))
-    (λ p. absurd (h (sym (iri-unopened s at (eqb-false (byteAt s at) 60 p)))))
+    rw (iri-some s at o c) (enclosed-read 60 62 Iri s at (omega arith) (omega arith) o c))
+    (λ q. absurd (h (iri-unclosed s at (eqb-true (byteAt s at) 60 p) (eqb-false (byteAt s e) 62 q)))))
+    (λ p. absurd (h (iri-unopened s at (eqb-false (byteAt s at) 60 p))))
 
 pub iri-found : {s : List ℕ} {at to : ℕ} → Stands iri s at to → iriEnd s at ≡ to
 unfolding iri belongs
-iri-found {s} {at} {to} x = let m = enclosed-found 60 62 Iri refl x in sym (iri-some s at (m .0) (m .1)) ∙ sym (m .2)
+iri-found {s} {at} {to} x = let m = enclosed-found 60 62 Iri refl x in iri-some s at (m .0) (m .1) ∙ sym (m .2)

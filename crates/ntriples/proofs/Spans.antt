@@ -1,26 +1,25 @@
 -- Where the parts of a statement stand: one behind the other, inside the line, with the first bytes of IRIs and literals.
 -- Assumes nothing.
-use mathlib.Core.Path.{_≡_, refl, sym, ap, _∙_}
+use mathlib.Core.Path.{_≡_, sym, _∙_}
 use mathlib.Core.Logic.{_⊎_, inl, inr, ⊎-elim}
-use mathlib.Core.Bool.{Bool, true, false, _||_}
+use mathlib.Core.Bool.{false}
 use mathlib.Core.List.{List}
 use Prim.Native.Nat.{ℕ, _+_, _≤_, _<_}
 use native.Mathlib.Omega.{arith}
 use lib.ListN.{length, getD}
-use lib.Dec.{eqb}
-use borrow.Author.Tests.{eqb-true, eqb-false}
-use Rattle.facts.proofs.Terms.{by-cases, neither}
-use Rattle.ntriples.specs.declared.Class.the-variants.{White, Iri, Quoted}
+use Rattle.facts.proofs.Terms.{neither}
+use Rattle.ntriples.specs.declared.Class.the-variants.{White}
 use Rattle.ntriples.specs.declared.Span.{Span}
 use Rattle.ntriples.specs.declared.Line.the-variants.{Triple}
-use Rattle.ntriples.specs.Grammar.{iri, quoted, literal}
-use Rattle.ntriples.specs.Lexed.{byteAt, runEnd, iriEnd, literalEnd, subjectEnd, objectEnd, stops, isBlank, lineOf}
+use Rattle.ntriples.specs.Grammar.{Of, iri, literal, subject, object}
+use Rattle.ntriples.specs.Lexed.{byteAt, runEnd, isBlank, lineOf}
 use Rattle.ntriples.proofs.Lexed.{any-default, sits, never}
-use Rattle.ntriples.proofs.Lines.{subject-iri, object-literal, object-other, stops-not}
-use Rattle.ntriples.proofs.Stands.{Stands, then-stands}
-use Rattle.ntriples.proofs.Runs.{run-read, iri-read, enclosed-wide}
-use Rattle.ntriples.proofs.Literals.{literal-read}
+use Rattle.ntriples.proofs.Stands.{Stands, stands-as}
+use Rattle.ntriples.proofs.Runs.{run-read}
+use Rattle.ntriples.proofs.Nodes.{iri-opens, literal-opens, subject-kind, object-kind}
+use Rattle.ntriples.proofs.Ends.{stops-read}
 use Rattle.ntriples.proofs.Parts.{Parts, Parsed, blanks, parsed}
+use Rattle.ntriples.proofs.Told.{told-read}
 
 -- the parts have two bytes or more each, and the full stop stands behind them
 pub record Spans (l : List ℕ) (a b c : Span) : Type 0 where
@@ -34,51 +33,36 @@ pub record Spans (l : List ℕ) (a b c : Span) : Type 0 where
   pub predicate-first : getD l (b .from) 0 ≡ 60
   pub object-first : (getD l (c .from) 0 ≡ 60) ⊎ (getD l (c .from) 0 ≡ 34)
 
--- a first byte, as the lexer and as the reader of a list see it
+-- a first byte, whatever stands behind the end
 first : (l : List ℕ) (at b : ℕ) → byteAt l at ≡ b → (b ≡ 10 → ⊥) → getD l at 0 ≡ b
 first l at b e h = any-default l at 0 10 (sits l at b e h) ∙ e
 
-iri-shape : {l : List ℕ} {at to : ℕ} → Stands iri l at to → (getD l at 0 ≡ 60) × (at + 2 ≤ to)
-unfolding iri
-iri-shape {l} {at} {to} x = let w = enclosed-wide Iri x in (first l at 60 (w .0) (omega arith), w .1)
-
-literal-shape : {l : List ℕ} {at to : ℕ} → Stands literal l at to → (getD l at 0 ≡ 34) × (at + 2 ≤ to)
-unfolding literal quoted
-literal-shape {l} {at} {to} x =
-    let m = then-stands x in
-    let w = enclosed-wide Quoted (m .1) in
-    (first l at 34 (w .0) (omega arith), omega (arith, w .1, m .2 .length-of))
-
 -- a subject that is no blank node is an IRI, and an object an IRI or a literal
-subject-named : (l : List ℕ) (at : ℕ) → isBlank l at ≡ false → (subjectEnd l at ≡ 0 → ⊥) → Stands iri l at (subjectEnd l at)
-subject-named l at b h = let e = subject-iri l at (eqb-false (byteAt l at) 95 b) in rw e (iri-read l at (λ z. h (e ∙ z)))
+subject-named : {l : List ℕ} {at to : ℕ} → Stands subject l at to → isBlank l at ≡ false → Stands iri l at to
+subject-named x e = ⊎-elim (λ k. stands-as x (k .0)) (λ k. never (sym e ∙ k .1)) (subject-kind x)
 
-object-named : (l : List ℕ) (at : ℕ) → isBlank l at ≡ false → (objectEnd l at ≡ 0 → ⊥) → Stands iri l at (objectEnd l at) ⊎ Stands literal l at (objectEnd l at)
-object-named l at b h =
-    by-cases (eqb (byteAt l at) 34)
-    (λ p. let e = object-literal l at (eqb-true (byteAt l at) 34 p) in rw e (inr (literal-read l at (λ z. h (e ∙ z)))))
-    (λ p. let e = object-other l at (eqb-false (byteAt l at) 34 p) in rw e (inl (subject-named l at b (λ z. h (e ∙ z)))))
-
-stop-byte : (l : List ℕ) (at : ℕ) → stops l at ≡ true → byteAt l at ≡ 46
-stop-byte l at e = by-cases (eqb (byteAt l at) 46) (λ p. eqb-true (byteAt l at) 46 p) (λ p. never (sym (stops-not l at (eqb-false (byteAt l at) 46 p)) ∙ e))
+object-named : {l : List ℕ} {at to : ℕ} → Stands object l at to → isBlank l at ≡ false → Stands iri l at to ⊎ Stands literal l at to
+unfolding Of
+object-named x e = ⊎-elim (λ k. ⊎-elim (λ o. inl (stands-as x o)) (λ o. inr (stands-as x o)) (k .0)) (λ k. never (sym e ∙ k .1)) (object-kind x)
 
 spans : (l : List ℕ) (a b c : Span) → Parts l a b c → blanks l a c ≡ false → Spans l a b c
-spans l a b c p e =
+spans l a b c q e =
     let n = neither (isBlank l (a .from)) (isBlank l (c .from)) (rw e tt) in
-    let x : Stands iri l (a .from) (a .to) = rw (p .subject) (subject-named l (a .from) (n .0) (λ z. p .has-subject (p .subject ∙ z))) in
-    let y : Stands iri l (b .from) (b .to) = rw (p .predicate) (iri-read l (b .from) (λ z. p .has-predicate (p .predicate ∙ z))) in
-    let z : Stands iri l (c .from) (c .to) ⊎ Stands literal l (c .from) (c .to) = rw (p .object) (object-named l (c .from) (n .1) (λ z. p .has-object (p .object ∙ z))) in
+    let (s, p, o, t) = told-read l a b c q in
+    let x = iri-opens (subject-named (t .subject-stands) (n .0)) in
+    let y = iri-opens (t .predicate-stands) in
+    let z = object-named (t .object-stands) (n .1) in
     let at = runEnd White l (c .to) in
     record {
-      subject = iri-shape x .1;
-      subject-predicate = omega (arith, p .from-predicate, run-read White l (a .to) .length-of);
-      predicate = iri-shape y .1;
-      predicate-object = omega (arith, p .from-object, run-read White l (b .to) .length-of);
-      object = ⊎-elim (λ o. iri-shape o .1) (λ o. literal-shape o .1) z;
-      inside = omega (arith, sits l at 46 (stop-byte l at (p .stop)) (omega arith), run-read White l (c .to) .length-of);
-      subject-first = iri-shape x .0;
-      predicate-first = iri-shape y .0;
-      object-first = ⊎-elim (λ o. inl (iri-shape o .0)) (λ o. inr (literal-shape o .0)) z;
+      subject = x .1;
+      subject-predicate = omega (arith, q .from-predicate, run-read White l (a .to) .length-of);
+      predicate = y .1;
+      predicate-object = omega (arith, q .from-object, run-read White l (b .to) .length-of);
+      object = ⊎-elim (λ o. iri-opens o .1) (λ o. literal-opens o .1) z;
+      inside = omega (arith, sits l at 46 (stops-read l at (q .stop) .0) (omega arith), run-read White l (c .to) .length-of);
+      subject-first = first l (a .from) 60 (x .0) (omega arith);
+      predicate-first = first l (b .from) 60 (y .0) (omega arith);
+      object-first = ⊎-elim (λ o. inl (first l (c .from) 60 (iri-opens o .0) (omega arith))) (λ o. inr (first l (c .from) 34 (literal-opens o .0) (omega arith))) z;
     }
 
 pub triple-spans : (l : List ℕ) (a b c : Span) → lineOf l ≡ Triple a b c → Spans l a b c

@@ -1,9 +1,8 @@
 -- A line that makes a statement, both ways: by the grammar and by the places of its parts.
 -- Assumes nothing.
 use mathlib.Core.Path.{_≡_, refl, sym, ap, _∙_}
-use mathlib.Core.Bool.{Bool, true, false, cond}
 use mathlib.Core.List.{List, [], _∷_, _++_}
-use Prim.Native.Nat.{ℕ, _+_, _≤_}
+use Prim.Native.Nat.{ℕ, _+_}
 use native.Mathlib.Omega.{arith}
 use lib.ListN.{drop}
 use lib.Dec.{eqb}
@@ -11,16 +10,15 @@ use borrow.Author.Tests.{eqb-true, eqb-false}
 use Rattle.facts.proofs.Terms.{by-cases}
 use Rattle.ntriples.specs.declared.Class.the-variants.{White, Label}
 use Rattle.ntriples.specs.declared.Span.{Span}
-use Rattle.ntriples.specs.declared.Line.the-variants.{Unknown, Triple}
 use Rattle.ntriples.specs.Classes.{belongs}
-use Rattle.ntriples.specs.Grammar.{Grammar, byte, Of, white, iri, subject, object, rest, Says}
-use Rattle.ntriples.specs.Lexed.{byteAt, runEnd, subjectEnd, objectEnd, ends, stops, span}
+use Rattle.ntriples.specs.Grammar.{byte, Of, white, iri, subject, object, rest, Says}
+use Rattle.ntriples.specs.Lexed.{byteAt, runEnd, ends, stops, span}
 use Rattle.ntriples.specs.Tokens.{Token}
 use Rattle.ntriples.proofs.Lexed.{never}
 use Rattle.ntriples.proofs.Lines.{stops-some}
 use Rattle.ntriples.proofs.Stands.{Stands, front, stands-byte, byte-stands}
 use Rattle.ntriples.proofs.Runs.{run-read, run-found, run-bytes, iri-read, iri-found}
-use Rattle.ntriples.proofs.Delimits.{Delimits, white-front}
+use Rattle.ntriples.proofs.Delimits.{white-front}
 use Rattle.ntriples.proofs.Labels.{Follows}
 use Rattle.ntriples.proofs.Nodes.{subject-read, object-read, iri-opens, subject-found, object-found, subject-opens, object-opens}
 use Rattle.ntriples.proofs.Ends.{ends-found, rest-fails, stops-read}

@@ -1,18 +1,9 @@
 -- `line_parser::from_predicate` meets its contract.
 -- Assumes nothing.
-use mathlib.Core.Path.{_≡_, sym, ap, _∙_}
-use mathlib.Core.Bool.{true, false, not}
-use Prim.Native.Nat.{ℕ, _+_}
-use native.Mathlib.Omega.{arith}
-use lib.ListN.{length}
-use lib.Dec.{leb}
-use borrow.Author.Tests.{not-true, not-false}
+use mathlib.Core.Path.{ap, _∙_}
 use denote.Ref.{now}
-use Rattle.ntriples.specs.declared.Class.the-variants.{Label, White, Comment}
-use Rattle.ntriples.specs.Classes.{belongs}
-use Rattle.ntriples.specs.Lexed.{byteAt, runEnd, trimmed, beginsLabel, ends, stops, span, isBlank, fromObject, fromPredicate, fromSubject}
-use Rattle.ntriples.proofs.Lexed.{sits}
-use Rattle.ntriples.proofs.Lines.{ends-over, ends-not, ends-comment, stops-not, stops-some, blank-unopened, blank-half, blank-bare, blank-some, subject-blank, subject-iri, object-literal, object-other, begins, object-none, object-unstopped, object-unknown, object-triple, predicate-none, predicate-some, subject-none, subject-some, line-nothing, line-some}
+use Rattle.ntriples.specs.Lexed.{span, fromObject}
+use Rattle.ntriples.proofs.Lines.{predicate-none, predicate-some}
 use Rattle.line_parser.proofs.from_predicate.Statement.{statement}
 use Rattle.line_parser.proofs.from_predicate.Tie as tie
 
@@ -20,7 +11,9 @@ iri-end-requires : tie.Need-iri-end-requires
 iri-end-requires c κs = tt
 
 returns : tie.Need-returns
-returns c = predicate-none (now (c .before .before .before .args .s)) (c .before .before .before .args .subject) (c .before .before .before .args .at) (c .before .iri-end .result) (c .before .iri-end .ensures) (c .if1 .taken)
+returns c =
+    let a = c .before .before .before .args in
+    predicate-none (now (a .s)) (a .subject) (a .at) (c .before .iri-end .result) (c .before .iri-end .ensures) (c .if1 .taken)
 
 run-end-requires : tie.Need-run-end-requires
 run-end-requires c κs = tt
@@ -29,7 +22,11 @@ from-object-requires : tie.Need-from-object-requires
 from-object-requires c κs = tt
 
 returns-2 : tie.Need-returns-2
-returns-2 c = c .from-object .ensures ∙ ap (fromObject (now (c .before .before .before .before .before .args .s)) (c .before .before .before .before .before .args .subject) (span (c .before .before .before .before .before .args .at) (c .before .before .before .iri-end .result))) (c .before .run-end .ensures) ∙ predicate-some (now (c .before .before .before .before .before .args .s)) (c .before .before .before .before .before .args .subject) (c .before .before .before .before .before .args .at) (c .before .before .before .iri-end .result) (c .before .before .before .iri-end .ensures) (c .before .before .if1 .left)
+returns-2 c =
+    let a = c .before .before .before .before .before .args in
+    let o = c .before .before .before .iri-end in
+    c .from-object .ensures ∙ ap (fromObject (now (a .s)) (a .subject) (span (a .at) (o .result))) (c .before .run-end .ensures)
+    ∙ predicate-some (now (a .s)) (a .subject) (a .at) (o .result) (o .ensures) (c .before .before .if1 .left)
 
 pub from-predicate-spec : {M : Type 1} → statement M
 from-predicate-spec =

@@ -1,29 +1,24 @@
 -- `line_parser::is_end` meets its contract.
 -- Assumes nothing.
-use mathlib.Core.Path.{_≡_, sym, ap, _∙_}
-use mathlib.Core.Bool.{true, false, not}
-use Prim.Native.Nat.{ℕ, _+_}
+use mathlib.Core.Path.{sym, ap, _∙_}
 use native.Mathlib.Omega.{arith}
 use lib.ListN.{length}
 use lib.Dec.{leb}
-use borrow.Author.Tests.{not-true, not-false}
 use denote.Ref.{now}
-use Rattle.ntriples.specs.declared.Class.the-variants.{Label, White, Comment}
-use Rattle.ntriples.specs.Classes.{belongs}
-use Rattle.ntriples.specs.Lexed.{byteAt, runEnd, trimmed, beginsLabel, ends, stops, span, isBlank, fromObject, fromPredicate, fromSubject}
-use Rattle.ntriples.proofs.Lexed.{sits}
-use Rattle.ntriples.proofs.Lines.{ends-over, ends-not, ends-comment, stops-not, stops-some, blank-unopened, blank-half, blank-bare, blank-some, subject-blank, subject-iri, object-literal, object-other, begins, object-none, object-unstopped, object-unknown, object-triple, predicate-none, predicate-some, subject-none, subject-some, line-nothing, line-some}
+use Rattle.ntriples.proofs.Lines.{ends-over, ends-not, ends-comment}
 use Rattle.line_parser.proofs.is_end.Statement.{statement}
 use Rattle.line_parser.proofs.is_end.Tie as tie
 
 returns : tie.Need-returns
-returns c = sym (ends-over (now (c .before .before .args .s)) (c .before .before .args .at) (c .if1 .taken))
+returns c = let a = c .before .before .args in sym (ends-over (now (a .s)) (a .at) (c .if1 .taken))
 
 byte-at-requires : tie.Need-byte-at-requires
 byte-at-requires c κs = tt
 
 returns-2 : tie.Need-returns-2
-returns-2 c = sym (ends-not (now (c .before .before .before .before .args .s)) (c .before .before .before .before .args .at) (c .before .before .if1 .left) (λ e. c .if2 .taken (c .before .byte-at .ensures ∙ e)))
+returns-2 c =
+    let a = c .before .before .before .before .args in
+    sym (ends-not (now (a .s)) (a .at) (c .before .before .if1 .left) (λ e. c .if2 .taken (c .before .byte-at .ensures ∙ e)))
 
 add-run-end : tie.Need-add-run-end
 add-run-end c = omega arith
@@ -32,7 +27,10 @@ run-end-requires : tie.Need-run-end-requires
 run-end-requires c κs = tt
 
 returns-3 : tie.Need-returns-3
-returns-3 c = ap (leb (length (now (c .before .before .before .before .before .args .s)))) (c .run-end .ensures) ∙ sym (ends-comment (now (c .before .before .before .before .before .args .s)) (c .before .before .before .before .before .args .at) (c .before .before .before .if1 .left) (sym (c .before .before .byte-at .ensures) ∙ c .before .if2 .left))
+returns-3 c =
+    let a = c .before .before .before .before .before .args in
+    ap (leb (length (now (a .s)))) (c .run-end .ensures)
+    ∙ sym (ends-comment (now (a .s)) (a .at) (c .before .before .before .if1 .left) (sym (c .before .before .byte-at .ensures) ∙ c .before .if2 .left))
 
 pub is-end-spec : {M : Type 1} → statement M
 is-end-spec =

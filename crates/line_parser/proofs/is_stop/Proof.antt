@@ -1,18 +1,11 @@
 -- `line_parser::is_stop` meets its contract.
 -- Assumes nothing.
 use mathlib.Core.Path.{_≡_, sym, ap, _∙_}
-use mathlib.Core.Bool.{true, false, not}
-use Prim.Native.Nat.{ℕ, _+_}
 use native.Mathlib.Omega.{arith}
-use lib.ListN.{length}
-use lib.Dec.{leb}
-use borrow.Author.Tests.{not-true, not-false}
 use denote.Ref.{now}
-use Rattle.ntriples.specs.declared.Class.the-variants.{Label, White, Comment}
-use Rattle.ntriples.specs.Classes.{belongs}
-use Rattle.ntriples.specs.Lexed.{byteAt, runEnd, trimmed, beginsLabel, ends, stops, span, isBlank, fromObject, fromPredicate, fromSubject}
+use Rattle.ntriples.specs.Lexed.{byteAt, ends}
 use Rattle.ntriples.proofs.Lexed.{sits}
-use Rattle.ntriples.proofs.Lines.{ends-over, ends-not, ends-comment, stops-not, stops-some, blank-unopened, blank-half, blank-bare, blank-some, subject-blank, subject-iri, object-literal, object-other, begins, object-none, object-unstopped, object-unknown, object-triple, predicate-none, predicate-some, subject-none, subject-some, line-nothing, line-some}
+use Rattle.ntriples.proofs.Lines.{stops-not, stops-some}
 use Rattle.line_parser.proofs.is_stop.Statement.{statement}
 use Rattle.line_parser.proofs.is_stop.Tie as tie
 
@@ -20,10 +13,13 @@ byte-at-requires : tie.Need-byte-at-requires
 byte-at-requires c κs = tt
 
 returns : tie.Need-returns
-returns c = sym (stops-not (now (c .before .before .before .args .s)) (c .before .before .before .args .at) (λ e. c .if1 .taken (c .before .byte-at .ensures ∙ e)))
+returns c = let a = c .before .before .before .args in sym (stops-not (now (a .s)) (a .at) (λ e. c .if1 .taken (c .before .byte-at .ensures ∙ e)))
+
+stopped : (c : tie.Else1) → let a = c .before .before .before .args in byteAt (now (a .s)) (a .at) ≡ 46
+stopped c = sym (c .before .byte-at .ensures) ∙ c .if1 .left
 
 add-run-end : tie.Need-add-run-end
-add-run-end c = omega (arith, sits (now (c .before .before .before .args .s)) (c .before .before .before .args .at) 46 (sym (c .before .byte-at .ensures) ∙ c .if1 .left) (λ e. omega arith))
+add-run-end c = let a = c .before .before .before .args in omega (arith, sits (now (a .s)) (a .at) 46 (stopped c) (λ e. omega arith))
 
 run-end-requires : tie.Need-run-end-requires
 run-end-requires c κs = tt
@@ -32,7 +28,9 @@ is-end-requires : tie.Need-is-end-requires
 is-end-requires c κs = tt
 
 returns-2 : tie.Need-returns-2
-returns-2 c = c .is-end .ensures ∙ ap (ends (now (c .before .before .before .before .before .args .s))) (c .before .run-end .ensures) ∙ sym (stops-some (now (c .before .before .before .before .before .args .s)) (c .before .before .before .before .before .args .at) (sym (c .before .before .before .byte-at .ensures) ∙ c .before .before .if1 .left))
+returns-2 c =
+    let a = c .before .before .before .before .before .args in
+    c .is-end .ensures ∙ ap (ends (now (a .s))) (c .before .run-end .ensures) ∙ sym (stops-some (now (a .s)) (a .at) (stopped (c .before .before)))
 
 pub is-stop-spec : {M : Type 1} → statement M
 is-stop-spec =

@@ -1,18 +1,10 @@
 -- `line_parser::parse` meets its contract.
 -- Assumes nothing.
 use mathlib.Core.Path.{_≡_, sym, ap, _∙_}
-use mathlib.Core.Bool.{true, false, not}
-use Prim.Native.Nat.{ℕ, _+_}
-use native.Mathlib.Omega.{arith}
-use lib.ListN.{length}
-use lib.Dec.{leb}
-use borrow.Author.Tests.{not-true, not-false}
 use denote.Ref.{now}
-use Rattle.ntriples.specs.declared.Class.the-variants.{Label, White, Comment}
-use Rattle.ntriples.specs.Classes.{belongs}
-use Rattle.ntriples.specs.Lexed.{byteAt, runEnd, trimmed, beginsLabel, ends, stops, span, isBlank, fromObject, fromPredicate, fromSubject}
-use Rattle.ntriples.proofs.Lexed.{sits}
-use Rattle.ntriples.proofs.Lines.{ends-over, ends-not, ends-comment, stops-not, stops-some, blank-unopened, blank-half, blank-bare, blank-some, subject-blank, subject-iri, object-literal, object-other, begins, object-none, object-unstopped, object-unknown, object-triple, predicate-none, predicate-some, subject-none, subject-some, line-nothing, line-some}
+use Rattle.ntriples.specs.declared.Class.the-variants.{White}
+use Rattle.ntriples.specs.Lexed.{runEnd, ends, fromSubject}
+use Rattle.ntriples.proofs.Lines.{line-nothing, line-some}
 use Rattle.line_parser.proofs.parse.Statement.{statement}
 use Rattle.line_parser.proofs.parse.Tie as tie
 
@@ -22,14 +14,19 @@ run-end-requires c κs = tt
 is-end-requires : tie.Need-is-end-requires
 is-end-requires c κs = tt
 
+ended : (c : tie.After-is-end) → let s = now (c .before .before .before .args .s) in ends s (runEnd White s 0) ≡ c .is-end .result
+ended c = ap (ends (now (c .before .before .before .args .s))) (sym (c .before .run-end .ensures)) ∙ sym (c .is-end .ensures)
+
 returns : tie.Need-returns
-returns c = line-nothing (now (c .before .before .before .before .args .s)) (ap (ends (now (c .before .before .before .before .args .s))) (sym (c .before .before .run-end .ensures)) ∙ sym (c .before .is-end .ensures) ∙ c .if1 .taken)
+returns c = line-nothing (now (c .before .before .before .before .args .s)) (ended (c .before) ∙ c .if1 .taken)
 
 from-subject-requires : tie.Need-from-subject-requires
 from-subject-requires c κs = tt
 
 returns-2 : tie.Need-returns-2
-returns-2 c = c .from-subject .ensures ∙ ap (fromSubject (now (c .before .before .before .before .before .args .s))) (c .before .before .before .run-end .ensures) ∙ line-some (now (c .before .before .before .before .before .args .s)) (ap (ends (now (c .before .before .before .before .before .args .s))) (sym (c .before .before .before .run-end .ensures)) ∙ sym (c .before .before .is-end .ensures) ∙ c .before .if1 .left)
+returns-2 c =
+    let s = now (c .before .before .before .before .before .args .s) in
+    c .from-subject .ensures ∙ ap (fromSubject s) (c .before .before .before .run-end .ensures) ∙ line-some s (ended (c .before .before) ∙ c .before .if1 .left)
 
 pub parse-spec : {M : Type 1} → statement M
 parse-spec =

@@ -1,8 +1,7 @@
 -- `token_ends::byte_at` meets its contract.
 -- Assumes nothing.
 use mathlib.Core.Path.{sym}
-use native.Mathlib.Omega.{arith}
-use lib.ListN.{getD, List·getD-eq-default}
+use lib.ListN.{List·getD-eq-default}
 use denote.Ref.{now}
 use Rattle.ntriples.proofs.Lexed.{any-default}
 use borrow.Author.Needs.{needs}

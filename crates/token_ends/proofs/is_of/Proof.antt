@@ -1,7 +1,5 @@
 -- `token_ends::is_of` meets its contract: an arm for each class.
 -- Assumes nothing.
-use mathlib.Core.Path.{sym, ap}
-use Rattle.ntriples.specs.declared.Class.{Class}
 use Rattle.ntriples.specs.Classes.{belongs}
 use borrow.Author.Needs.{needs}
 use Rattle.token_ends.proofs.is_of.Statement.{statement}

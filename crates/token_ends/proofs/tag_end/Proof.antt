@@ -1,11 +1,10 @@
 -- `token_ends::tag_end` meets its contract. The loop's invariant: the tag from its start ends where the rest from i on does.
 -- Assumes nothing.
 use mathlib.Core.Path.{_≡_, refl, sym, ap, _∙_}
-use mathlib.Core.Bool.{true, false, not, _||_}
-use Prim.Native.Nat.{_+_, _-_}
+use mathlib.Core.Bool.{false}
+use Prim.Native.Nat.{_-_}
 use native.Mathlib.Omega.{arith}
-use lib.ListN.{length, drop, getD}
-use lib.Dec.{eqb}
+use lib.ListN.{length}
 use denote.Ref.{now}
 use Rattle.ntriples.specs.Lexed.{byteAt, tagEnd}
 use Rattle.ntriples.proofs.Lexed.{any-default, goesOn, tagAt, tag-more, tag-part, tag-stop, tag-over}

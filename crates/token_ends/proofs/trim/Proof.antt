@@ -1,15 +1,10 @@
 -- `token_ends::trim` meets its contract. The loop's invariant: between i and the start stand only full stops.
 -- Assumes nothing.
 use mathlib.Core.Path.{_≡_, refl, sym, ap, _∙_}
-use Prim.Native.Nat.{ℕ, _+_, _-_, _≤_, _<_}
 use native.Mathlib.Omega.{arith}
-use lib.ListN.{length}
-use lib.Dec.{leb, eqb}
-use borrow.Author.Tests.{eq-eqb, ne-eqb, le-leb, lt-leb}
 use denote.Ref.{now}
-use Rattle.ntriples.specs.declared.Class.the-variants.{Iri, Quoted, Label, White, Comment}
-use Rattle.ntriples.specs.Lexed.{byteAt, runEnd, iriEnd, suffixEnd, literalEnd, trimmed, blankEnd, subjectEnd, objectEnd, ends, stops, fromObject, fromPredicate, fromSubject, lineOf}
-use Rattle.ntriples.proofs.Lexed.{inside, sits, literal-unopened, literal-unclosed, literal-some, trim-stops, trim-goes-on}
+use Rattle.ntriples.specs.Lexed.{trimmed}
+use Rattle.ntriples.proofs.Lexed.{trim-stops, trim-goes-on}
 use Rattle.token_ends.proofs.trim.Statement.{statement}
 use Rattle.token_ends.proofs.trim.Tie as tie
 
@@ -30,9 +25,9 @@ byte-at-requires c κs = tt
 
 returns : tie.Need-returns Inv-loop μ-loop
 returns c =
-    let s = c .before .before .before .before .before in
+    let s = now (c .before .before .before .before .before .args .s) in
     let l = c .before .before .before .loop in
-    sym (l .inv ∙ trim-stops (now (s .args .s)) (l .i) (omega arith) (λ e. c .if1 .taken (c .before .byte-at .ensures ∙ e)))
+    sym (l .inv ∙ trim-stops s (l .i) (omega arith) (λ e. c .if1 .taken (c .before .byte-at .ensures ∙ e)))
 
 sub-i : tie.Need-sub-i Inv-loop μ-loop
 sub-i c = omega arith
@@ -42,17 +37,17 @@ loop-less c = omega arith
 
 loop-again : tie.Need-loop-again Inv-loop μ-loop
 loop-again c =
-    let s = c .before .before .before .before .before in
+    let s = now (c .before .before .before .before .before .args .s) in
     let l = c .before .before .before .loop in
-    l .inv ∙ trim-goes-on (now (s .args .s)) (l .i) (omega arith) (sym (c .before .byte-at .ensures) ∙ c .if1 .left)
+    l .inv ∙ trim-goes-on s (l .i) (omega arith) (sym (c .before .byte-at .ensures) ∙ c .if1 .left)
 
 returns-2 : tie.Need-returns-2 Inv-loop μ-loop
 unfolding trimmed
 returns-2 c =
-    let s = c .before .before .before in
+    let s = now (c .before .before .before .args .s) in
     let l = c .before .loop in
     let z : l .i ≡ 0 = omega arith in
-    sym (l .inv ∙ ap (trimmed (now (s .args .s))) z)
+    sym (l .inv ∙ ap (trimmed s) z)
 
 pub trim-spec : {M : Type 1} → statement M
 trim-spec =
