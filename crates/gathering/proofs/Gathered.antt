@@ -18,7 +18,7 @@ use Rattle.gathering.specs.Gathered.{with, gatheredWith}
 
 -- ---- the order
 
-tail-ascends : (g : Fact) (gs : List Fact) → T (ascending (g ∷ gs)) → T (ascending gs)
+pub tail-ascends : (g : Fact) (gs : List Fact) → T (ascending (g ∷ gs)) → T (ascending gs)
 unfolding ascending
 tail-ascends g [] a = tt
 tail-ascends g (h ∷ gs) a = and-yes (before g h) (ascending (h ∷ gs)) a .1
@@ -102,7 +102,7 @@ pub before-not : (f g : Fact) → T (before g f) → before f g ≡ false
 before-not f g b = by-cases (before f g) (λ p. absurd (before-irreflexive f (before-transitive f g f (T-of _ p) b))) (λ p. p)
 
 -- the first of ascending facts comes before the others
-first-before : (g f : Fact) (gs : List Fact) → T (ascending (g ∷ gs)) → List·Memᴰ f gs → T (before g f)
+pub first-before : (g f : Fact) (gs : List Fact) → T (ascending (g ∷ gs)) → List·Memᴰ f gs → T (before g f)
 unfolding ascending
 first-before g f [] a m = absurd (List·Memᴰ·not-nil m)
 first-before g f (h ∷ gs) a m =

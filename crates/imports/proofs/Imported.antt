@@ -54,7 +54,7 @@ both-clear Clear g e = (refl, e)
 both-clear (Fault r place) g e = not-found e
 
 -- a verdict on a line, and what is found behind it
-found-clear : (v : Verdict) (i : ℕ) (later : Finding) → foundOn v i later ≡ Clear → (v ≡ Sound) × (later ≡ Clear)
+pub found-clear : (v : Verdict) (i : ℕ) (later : Finding) → foundOn v i later ≡ Clear → (v ≡ Sound) × (later ≡ Clear)
 unfolding foundOn
 found-clear Sound i later e = (refl, e)
 found-clear (Faulty r) i later e = not-found e
