@@ -51,7 +51,7 @@ use Rattle.demands.proofs.Program.{torn, torn-piece, laid-line, program
 -- ---- demand 1
 
 -- numbers that an answer has say exactly where it is refused
-by-numbers : {P : Type 0} {c : Code} (a : Answer) (r : Refusal) (place : ℕ) → c ≡ codeOf a → a ≡ Refused r place ↔ P → RefusedWith c r place ↔ P
+pub by-numbers : {P : Type 0} {c : Code} (a : Answer) (r : Refusal) (place : ℕ) → c ≡ codeOf a → a ≡ Refused r place ↔ P → RefusedWith c r place ↔ P
 by-numbers a r place is q = (λ e. q .0 (told-refused (sym is ∙ e)), λ h. is ∙ ap codeOf (q .1 h))
 
 -- what a question that was put was answered

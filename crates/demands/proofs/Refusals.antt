@@ -119,11 +119,11 @@ abbrev pub Lacks : (List Fact → ℕ) → Table → ℕ → Refusal → ℕ →
 Lacks takes t m r place = (t ≡ refused r place) ⊎ ((facts : List Fact) × (t ≡ accepted facts) × (m < takes facts) × (r ≡ Short) × (place ≡ 0))
 
 -- what is answered so
-abbrev answers : (List Fact → ℕ) → Table → ℕ → Answer
+abbrev pub answers : (List Fact → ℕ) → Table → ℕ → Answer
 answers takes (accepted facts) m = cond (leb (takes facts) m) (Done (length facts)) (Refused Short 0)
 answers takes (refused r place) m = Refused r place
 
-answers-lack : (takes : List Fact → ℕ) (t : Table) (m : ℕ) (r : Refusal) (place : ℕ) → answers takes t m ≡ Refused r place ↔ Lacks takes t m r place
+pub answers-lack : (takes : List Fact → ℕ) (t : Table) (m : ℕ) (r : Refusal) (place : ℕ) → answers takes t m ≡ Refused r place ↔ Lacks takes t m r place
 answers-lack takes (refused q p) m r place = (
   λ e. let i : q ≡ r = cc in let j : p ≡ place = cc in inl (rw (i, j)),
   ⊎-elim (λ (z : refused q p ≡ refused r place). let i : q ≡ r = cc in let j : p ≡ place = cc in rw (i, j))
@@ -139,7 +139,7 @@ answers-lack takes (accepted facts) m r place = (
       let e : h .0 ≡ facts = cc (h .1) in rw (lt-leb (takes facts) m (rw e at (h .2)), h .3, h .4)),
 )
 
-settled-answers : (content : List Fact → List ℕ) (t : Table) (m : ℕ) → settled content t m ≡ answers (λ fs. length (content fs)) t m
+pub settled-answers : (content : List Fact → List ℕ) (t : Table) (m : ℕ) → settled content t m ≡ answers (λ fs. length (content fs)) t m
 unfolding settled
 settled-answers content (accepted facts) m = refl
 settled-answers content (refused r place) m = refl

@@ -12,9 +12,10 @@ use Rattle.acceptance.specs.Check.{checkAnswer, Judges}
 use Rattle.acceptance.proofs.Accepts.{check-judges}
 use Rattle.question.specs.Question.{Question, questionAnswer, Means}
 use Rattle.question.proofs.Answered.{answers-mean}
+use Rattle.imports.specs.Import.{importOf}
 use Rattle.entail.specs.Packed.{unpacked}
-use Rattle.entail.specs.Calls.{QuestionCall, CheckCall, ReadCall, WriteCall}
-use Rattle.entail.proofs.Small.{unpack-pack, read-small, write-small, check-small, question-small}
+use Rattle.entail.specs.Calls.{QuestionCall, CheckCall, ReadCall, WriteCall, ImportCall}
+use Rattle.entail.proofs.Small.{unpack-pack, read-small, write-small, import-small, check-small, question-small}
 
 pub question-unpacked : {q : Question} {entry exit : List ℕ} {r : ℕ} → QuestionCall q entry exit r → unpacked r ≡ codeOf (questionAnswer (q .table) (q .fact) (q .limit) (length entry))
 question-unpacked g = rw (g .answer) (unpack-pack _ (question-small _ _ _ _))
@@ -27,6 +28,9 @@ read-unpacked g = rw (g .answer) (unpack-pack _ (read-small _ _))
 
 pub write-unpacked : {row entry exit : List ℕ} {r : ℕ} → WriteCall row entry exit r → unpacked r ≡ codeOf (settled tableBytes (tableOfRow row) (length entry))
 write-unpacked g = rw (g .answer) (unpack-pack _ (write-small _ _))
+
+pub import-unpacked : {input entry exit : List ℕ} {r : ℕ} → ImportCall input entry exit r → unpacked r ≡ codeOf (settled tableBytes (importOf input) (length entry))
+import-unpacked g = rw (g .answer) (unpack-pack _ (import-small _ _))
 
 -- what a question's result means
 pub call-means : {q : Question} {entry exit : List ℕ} {r : ℕ} → QuestionCall q entry exit r → Means q entry exit (unpacked r)

@@ -97,6 +97,8 @@ pub record Import : Type 1 where
   -- with the written table's facts as count": the table is written into the front of the memory
   pub done : {b entry exit : List ℕ} {n : ℕ} {fs : List Fact} → ImportCall b entry exit n → Imported b fs → 16 * length fs ≤ length entry
       → DoneWith (unpacked n) (length fs) × (exit ≡ over (tableBytes fs) entry)
+  -- no answer names a term
+  pub unnamed : {b entry exit : List ℕ} {n : ℕ} → ImportCall b entry exit n → unpacked n .filling ≡ 0
   -- an input that gets no refusal is imported, as one table
   pub answered : (b : List ℕ) (m : ℕ) → ((r : Refusal) (place : ℕ) → ImportRefused b m r place → ⊥) ↔ ((fs : List Fact) × Imported b fs × (16 * length fs ≤ m))
   pub one-table : {b : List ℕ} {fs gs : List Fact} → Imported b fs → Imported b gs → fs ≡ gs
