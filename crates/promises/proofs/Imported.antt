@@ -74,7 +74,7 @@ module _ (b : List ℕ) (judge : List ℕ → Verdict) (Earned : List ℕ → Re
     record {
       within = f .within;
       before = λ j q h e. not-faulty (f .before j h) (says (lineOn b j) (at-line (linesOf b) j (omega (arith, f .within))) q .1 e);
-      here = says (lineOn b (f .at)) (at-line (linesOf b) (f .at) (f .within)) r .0 (f .here)
+      here = says (lineOn b (f .at)) (at-line (linesOf b) (f .at) (f .within)) r .0 (f .here);
     },
   )
 
@@ -93,7 +93,7 @@ module _ (b : List ℕ) (judge : List ℕ → Verdict) (Earned : List ℕ → Re
         counted = omega arith;
         within = f .within;
         before = λ j h. passes (lineOn b j) (at-line (linesOf b) j (omega (arith, f .within))) (λ q e. f .before j q h e);
-        here = says (lineOn b i) (at-line (linesOf b) i (f .within)) r .1 (f .here)
+        here = says (lineOn b i) (at-line (linesOf b) i (f .within)) r .1 (f .here);
       })
 
   none-first : ((i : ℕ) (q : Refusal) → i < length (linesOf b) → Earned (lineOn b i) q → ⊥) → firstOn judge 0 (linesOf b) ≡ Clear
@@ -132,8 +132,8 @@ module _ (b : List ℕ) where
   fault-refused m r place h e =
       ⊎-elim (λ f. let x = first-line b line LineRefused line-says r place f in subst (ImportRefused b m r) (sym (x .1)) (by-line h (x .2)))
       (λ f.
-        let x = first-line b fact (FactRefused (statements (linesOf b))) (fact-says h) r place (f .1) in
-        subst (ImportRefused b m r) (sym (x .1)) (by-fact h (clear-reads 0 (linesOf b) (f .0)) (x .2)))
+      let x = first-line b fact (FactRefused (statements (linesOf b))) (fact-says h) r place (f .1) in
+      subst (ImportRefused b m r) (sym (x .1)) (by-fact h (clear-reads 0 (linesOf b) (f .0)) (x .2)))
       (judged-fault (factOf (knownBy (statements (linesOf b)))) (linesOf b) r place e)
 
   crowd-refused : (m : ℕ) → length b ≤ 65536 → judged (linesOf b) ≡ Clear → 1024 < length (factsOf (statements (linesOf b))) → ImportRefused b m refusals.Crowd 0
@@ -158,7 +158,7 @@ module _ (b : List ℕ) where
         statements = statements (linesOf b);
         reads = clear-reads 0 (linesOf b) (c .0);
         facts = subst (FactsOf (statements (linesOf b))) (sym (a .facts)) (facts-of (statements (linesOf b)));
-        sound = subst TableFacts (sym (a .facts)) (import-table b (a .small) (a .clear) (a .few) .1)
+        sound = subst TableFacts (sym (a .facts)) (import-table b (a .small) (a .clear) (a .few) .1);
       }
 
   -- well-formed facts earn nothing
@@ -166,8 +166,8 @@ module _ (b : List ℕ) where
   formed-clear fs h t =
       sound-clear (λ l. factRefusal (factOf (knownBy (statements (linesOf b)))) (said l)) 0 (linesOf b)
       (λ j n. said-sound (factOf (knownBy (statements (linesOf b)))) (said (lineOn b j)) (λ s m.
-        let i : s ∈ statements (linesOf b) = said-among s (lineOn b j) (linesOf b) (at-line (linesOf b) j n) m in
-        fault-none (factOf (knownBy (statements (linesOf b))) s) .1 (formed-in fs (factOf (knownBy (statements (linesOf b))) s) (t .formed) (h (factOf (knownBy (statements (linesOf b))) s) .1 (s, i, refl)))))
+      let i : s ∈ statements (linesOf b) = said-among s (lineOn b j) (linesOf b) (at-line (linesOf b) j n) m in
+      fault-none (factOf (knownBy (statements (linesOf b))) s) .1 (formed-in fs (factOf (knownBy (statements (linesOf b))) s) (t .formed) (h (factOf (knownBy (statements (linesOf b))) s) .1 (s, i, refl)))))
 
   reads-facts : (ss : List Statement) → Reads (linesOf b) ss → (fs : List Fact) → FactsOf ss fs → FactsOf (statements (linesOf b)) fs
   reads-facts ss r fs h = subst (λ (x : List Statement). FactsOf x fs) (reads-said r) h
@@ -191,7 +191,7 @@ module _ (b : List ℕ) where
       inl (import-fault b h r (suc i) (first (factOf (knownBy (statements (linesOf b)))) (linesOf b) r (suc i) (line-first b line LineRefused line-says r i f)))
   refused-refused m (by-fact {ss} {r} {i} h d f) =
       inl (import-fault b h r (suc i)
-        (both (factOf (knownBy (statements (linesOf b)))) (linesOf b) (reads-clear 0 d) ∙ line-first b fact (FactRefused (statements (linesOf b))) (fact-says h) r i (fact-line ss r i d f)))
+      (both (factOf (knownBy (statements (linesOf b)))) (linesOf b) (reads-clear 0 d) ∙ line-first b fact (FactRefused (statements (linesOf b))) (fact-says h) r i (fact-line ss r i d f)))
   refused-refused m (by-crowd {ss} {fs} h d none o a n) =
       let e : fs ≡ factsOf (statements (linesOf b)) = facts-one (statements (linesOf b)) fs (reads-facts ss d fs o) a in
       let c = none-first b fact (FactRefused (statements (linesOf b))) (fact-says h) (subst (λ (x : List Statement). (i : ℕ) (q : Refusal) → i < length (linesOf b) → FactRefused x (lineOn b i) q → ⊥) (reads-said d) none) in
