@@ -100,7 +100,8 @@ static const example REFUSED[] = {
     {"_:x <b> \"x\"@en .#", 14, 1, NULL}, {"<a> <b> _:x.y.", 14, 1, NULL}, {"<a> <b> _:0-:_.\xff . #", 14, 1, NULL}, {"_::a <b> <c> .", 14, 1, NULL},
     {"_:\xff <b> <c> .", 14, 1, NULL}, {"_:a.. <b> <c> .", 13, 1, NULL}, {"<a> <b> _:x.y", 13, 1, NULL}, {"_:x _:y <c> .", 13, 1, NULL},
     {"<a> _:y <c> .", 13, 1, NULL}, {"_: <b> <c> .", 13, 1, NULL}, {"_x <b> <c> .", 13, 1, NULL}, {"_:-x <b> <c> .", 13, 1, NULL},
-    {"_:.x <b> <c> .", 13, 1, NULL}, {"_:x <b> <c>", 13, 1, NULL}, {"<a> <b> _:x ..", 13, 1, NULL}, {"_:x <b> \"x\\n\" .", 13, 1, NULL},
+    {"_:.x <b> <c> .", 13, 1, NULL}, {"_:x <b> <c>", 13, 1, NULL}, {"<a> <b> _:x ..", 13, 1, NULL}, {"<a> <b> _:x..", 13, 1, NULL}, {"<a> <b> _:x.. .", 13, 1, NULL},
+     {"_:x <b> \"x\\n\" .", 13, 1, NULL},
     /* line by line, 13 and then 14; the place is the line, with comments and blank lines counted */
     {"_:x <b> <c> .\nx\n", 14, 1, NULL}, {"x\n_:x <b> <c> .\n", 13, 1, NULL}, {"# 1\n\n<a> <b> <c> .\n_:x <b> <c> .\nx", 14, 4, NULL},
     {"<a> <b> <c> .\n<a> <b> <c> .\n\n<a> <b> .\n", 13, 4, NULL},
