@@ -83,6 +83,10 @@
  *
  * A token is its bytes, from < to > or from the first quote to the end of tag or datatype: "a", "a"@en and "a"@EN are three.
  *
+ *   uint8_t table[FACTBOX_TABLE_MAX];
+ *   uint64_t r = factbox_import(text, text_len, table, sizeof table);
+ *   size_t table_len = FACTBOX_TABLE_LINE * (size_t)factbox_count(r);  // where factbox_number(r) == FACTBOX_DONE
+ *
  * For every call:
  * - It ends, whatever it is given, and it needs no test of its input beforehand: what is wrong gets a refusal.
  * - The result has four numbers: number, place, count, filling (factbox_number, factbox_place, factbox_count,
