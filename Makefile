@@ -1,9 +1,9 @@
 # make test: the whole check. make demo: the program and the panel's screen on document 01's example. make bench: the
-# measurements. make fuzz: a longer comparison. make fmt: the sources' layout.
+# measurements. make fuzz: a longer comparison. make peers: the import beside other readers. make fmt: the sources' layout.
 SHELL := bash
 .SHELLFLAGS := -euo pipefail -c
 .ONESHELL:
-.PHONY: test demo bench fuzz fmt tools-installed check-trace host built
+.PHONY: test demo bench fuzz peers fmt tools-installed check-trace host built
 
 # What is tried after the prover.
 CHECKS := check-trace host
@@ -68,6 +68,10 @@ bench: built
 
 fuzz: built
 	@$(MAKE) --no-print-directory -C tests fuzz
+
+# The import beside other readers of N-Triples, which are installed where they are missing.
+peers: built
+	@$(MAKE) --no-print-directory -C tests/peers peers
 
 fmt:
 	@rt fmt

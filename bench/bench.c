@@ -7,10 +7,11 @@
  *   bench sum N M      the questions of that input by the call, for callgrind and a clock
  *
  * KIND is "whole" for the families whose questions have no gap, or "gap" for those with one. Of these the question alone is
- * measured: a check never has a gap. */
+ * measured: a check never has a gap. Or it is "import", for the import of texts, by their bytes in place of facts. */
 #include "../client/factbox.h"
 #include "families.h"
 #include "plain.h"
+#include "texts.h"
 
 #include <stdio.h>
 #include <stdlib.h>
@@ -18,13 +19,14 @@
 #include <time.h>
 #include <valgrind/callgrind.h>
 
-enum { SAMPLES = 16, PAIRS = 512, LIMIT = FACTBOX_FACTS_MAX, GAP_FIRST = 60000 };
+enum { SAMPLES = 16, PAIRS = 512, IMPORT_PAIRS = 64, LIMIT = FACTBOX_FACTS_MAX, GAP_FIRST = 60000 };
 
 static sample samples[SAMPLES];
+static text texts[SAMPLES];
 static uint8_t derivations[SAMPLES][FACTBOX_DERIVATION_MAX];
 static size_t derivation_len[SAMPLES];
 static uint8_t output[FACTBOX_DERIVATION_MAX];
-static const unsigned sizes[] = {64, 128, 256, 512, 1024};
+static const unsigned sizes[] = {64, 128, 256, 512, 1024}, text_sizes[] = {4096, 8192, 16384, 32768, 65536};
 enum { SIZES = sizeof sizes / sizeof *sizes };
 
 static uint64_t proved_question(int i) {
@@ -43,11 +45,15 @@ static uint64_t plainly_check(int i) {
     const sample *s = &samples[i];
     return plain_check(s->table, s->table_len, s->subject, s->predicate, s->object, derivations[i], derivation_len[i]);
 }
+static uint64_t proved_import(int i) { return factbox_import(texts[i].bytes, texts[i].len, output, FACTBOX_TABLE_MAX); }
+static uint64_t plainly_import(int i) { return plain_import(texts[i].bytes, texts[i].len, output, FACTBOX_TABLE_MAX); }
 
 typedef uint64_t call(int sample);
-static const struct { const char *name; call *proved, *plain; } calls[] = {
-    {"question", proved_question, plainly_question},
-    {"check", proved_check, plainly_check},
+enum { QUESTION, CHECK, IMPORT };
+static const struct { const char *name; call *proved, *plain; int pairs; } calls[] = {
+    {"question", proved_question, plainly_question, PAIRS},
+    {"check", proved_check, plainly_check, PAIRS},
+    {"import", proved_import, plainly_import, IMPORT_PAIRS},
 };
 
 /* The term that a result names for the gap, bits 48 to 63, or 0; and the result without it, since a tie is free. */
@@ -86,6 +92,20 @@ static int prepare(int family, unsigned facts) {
     return derivation_len[0] && family < first_gap_family ? 2 : 1;
 }
 
+/* Makes texts for the import, one for counting. Both implementations make the same of them. */
+static void prepare_texts(int family, unsigned size, int counting) {
+    static uint8_t table[FACTBOX_TABLE_MAX];
+    for (int i = 0; i < (counting ? 1 : SAMPLES); i++) {
+        make_text(family, size, (uint32_t)i + 1, &texts[i]);
+        uint64_t plain = plainly_import(i);
+        memcpy(table, output, sizeof table);
+        memset(output, 0, sizeof table);
+        if (proved_import(i) == plain && memcmp(output, table, 16 * (size_t)factbox_count(plain)) == 0) continue;
+        fprintf(stderr, "bench: %s, %u bytes, text %d: the two do not agree\n", text_family_name(family), size, i);
+        exit(1);
+    }
+}
+
 static double now(void) {
     struct timespec t;
     clock_gettime(CLOCK_MONOTONIC, &t);
@@ -103,44 +123,58 @@ static int by_value(const void *a, const void *b) {
     return (x > y) - (x < y);
 }
 
-static double median(double *values) {
-    qsort(values, PAIRS, sizeof *values, by_value);
-    return values[PAIRS / 2];
+static double median(double *values, int count) {
+    qsort(values, (size_t)count, sizeof *values, by_value);
+    return values[count / 2];
 }
 
 /* Medians over pairs of calls, nanoseconds a call; which of the two comes first changes from pair to pair. Every pair has
  * another sample than the one before, or all have the first. */
-static void time_call(const char *family, unsigned facts, int which, int differ) {
+static void time_call(const char *family, unsigned size, int which, int differ) {
     static double ratio[PAIRS], proved[PAIRS], plain[PAIRS];
-    for (int i = 0; i < PAIRS; i++) {
+    int pairs = calls[which].pairs;
+    for (int i = 0; i < pairs; i++) {
         int at = differ ? i % SAMPLES : 0;
         if (i / SAMPLES % 2) plain[i] = timed(calls[which].plain, at);
         proved[i] = timed(calls[which].proved, at);
         if (i / SAMPLES % 2 == 0) plain[i] = timed(calls[which].plain, at);
         ratio[i] = proved[i] / plain[i];
     }
-    printf("%s\t%u\t%s\t%s\t%.4f\t%.0f\t%.0f\n", family, facts, calls[which].name, differ ? "other" : "same", median(ratio), median(proved), median(plain));
+    printf("%s\t%u\t%s\t%s\t%.4f\t%.0f\t%.0f\n", family, size, calls[which].name, differ ? "other" : "same", median(ratio, pairs),
+           median(proved, pairs), median(plain, pairs));
 }
 
-static void count_call(const char *family, unsigned facts, int which, int proved) {
+static void count_call(const char *family, unsigned size, int which, int proved) {
     char name[128];
-    snprintf(name, sizeof name, "%s\t%u\t%s\t%s", family, facts, calls[which].name, proved ? "proved" : "plain");
+    snprintf(name, sizeof name, "%s\t%u\t%s\t%s", family, size, calls[which].name, proved ? "proved" : "plain");
     call *c = proved ? calls[which].proved : calls[which].plain;
     CALLGRIND_ZERO_STATS;
     c(0);
     CALLGRIND_DUMP_STATS_AT(name);
 }
 
+/* One call, proved and plain, or with the same input and another one. */
+static void measure(int counting, const char *family, unsigned size, int which) {
+    for (int k = 0; k < 2; k++) {
+        if (counting) count_call(family, size, which, k);
+        else time_call(family, size, which, k);
+    }
+}
+
 static void all(int counting, int gap) {
     for (int family = gap ? first_gap_family : 0; family < (gap ? family_count : first_gap_family); family++) {
         for (int size = 0; size < SIZES; size++) {
             int measured = prepare(family, sizes[size]);
-            for (int which = 0; which < measured; which++) {
-                for (int k = 0; k < 2; k++) {
-                    if (counting) count_call(family_name(family), sizes[size], which, k);
-                    else time_call(family_name(family), sizes[size], which, k);
-                }
-            }
+            for (int which = 0; which < measured; which++) measure(counting, family_name(family), sizes[size], which);
+        }
+    }
+}
+
+static void all_texts(int counting) {
+    for (int family = 0; family < text_family_count; family++) {
+        for (int size = 0; size < SIZES; size++) {
+            prepare_texts(family, text_sizes[size], counting);
+            measure(counting, text_family_name(family), text_sizes[size], IMPORT);
         }
     }
 }
@@ -170,7 +204,8 @@ static void program_questions(unsigned facts, unsigned questions, int print) {
 }
 
 int main(int argc, char **argv) {
-    if (argc == 3) all(strcmp(argv[1], "count") == 0, strcmp(argv[2], "gap") == 0);
+    if (argc == 3 && strcmp(argv[2], "import") == 0) all_texts(strcmp(argv[1], "count") == 0);
+    else if (argc == 3) all(strcmp(argv[1], "count") == 0, strcmp(argv[2], "gap") == 0);
     else if (argc == 4) program_questions((unsigned)atoi(argv[2]), (unsigned)atoi(argv[3]), strcmp(argv[1], "input") == 0);
     else return 2;
     return 0;

@@ -10,5 +10,6 @@ uint64_t plain_check(const uint8_t *table, size_t table_len, uint32_t subject, u
                      const uint8_t *derivation, size_t derivation_len);
 uint64_t plain_read(const uint8_t *table, size_t table_len, uint32_t *row, size_t row_len);
 uint64_t plain_write(const uint32_t *row, size_t row_len, uint8_t *output, size_t output_len);
+uint64_t plain_import(const uint8_t *text, size_t text_len, uint8_t *table, size_t table_len);
 
 #endif

@@ -4,7 +4,10 @@
 report.py BENCH TUNED PROGRAM DIR: in DIR/PERFORMANCE.md, what stands between the two marks is written anew (the file is made
 where there is none); DIR/performance.svg is the plot. BENCH has the plain implementation, TUNED the one with the proved
 code's shortcuts. Instructions are callgrind's, and the same in every run; times are medians over interleaved pairs of calls.
-Families with a gap in the question are kept apart from those without, so that the means of the latter stay comparable.
+Families with a gap in the question are kept apart from those without, so that the means of the latter stay comparable. Ends with
+status 1 where the import of some text of 65,536 bytes takes more than ten times what a typical one takes.
+
+report.py import BENCH: prints what is measured of the import, with the same end.
 
 report.py OLD NEW: prints the instructions of the proved calls in the bench NEW against those in OLD, a bench with another
 library, for the questions without a gap.
@@ -20,6 +23,9 @@ from pathlib import Path
 
 BEGIN, END = "<!-- results: written by bench/report.py -->", "<!-- end of results -->"
 SIZES = [64, 128, 256, 512, 1024]
+# bytes of a text to import, its first family, and how much more the import of another one may take
+TEXT_SIZES = [4096, 8192, 16384, 32768, 65536]
+TYPICAL, WORST_AIM = "typical export", 10
 # facts and questions of the program's inputs: 32,768 bytes hold no more questions over a full table, and no more facts
 # under 1,500 questions
 PROGRAM_INPUTS = [(1024, 779), (78, 1500)]
@@ -34,7 +40,8 @@ def output(*command, **more):
 
 def callgrind(*command, whole=False, **more):
     """What callgrind collects, in order, by the name under which it was dumped ('' where it was not): instructions by function."""
-    collect = [] if whole else ["--toggle-collect=factbox_*", "--toggle-collect=plain_*"]
+    calls = [f"{who}_{call}" for who in ("factbox", "plain") for call in ("question", "check", "import")]
+    collect = [] if whole else [f"--toggle-collect={call}" for call in calls]
     with tempfile.TemporaryDirectory() as folder:
         tool = ["valgrind", "--tool=callgrind", "--compress-strings=no", f"--callgrind-out-file={folder}/out"]
         output(*tool, *collect, *command, stderr=subprocess.DEVNULL, env={**os.environ, "GLIBC_TUNABLES": TUNABLES}, **more)
@@ -70,11 +77,11 @@ def table(head, rows, right=True):
     return "\n".join("| " + " | ".join(line) + " |" for line in lines) + "\n"
 
 
-def function_table(dumps, call, families):
-    """Which functions the instructions of the proved call are spent in, at 1,024 facts."""
+def function_table(dumps, call, families, size=SIZES[-1]):
+    """Which functions the instructions of the proved call are spent in, at the largest size."""
     rows = []
     for family in families:
-        counts = dumps.get(f"{family}\t1024\t{call}\tproved")
+        counts = dumps.get(f"{family}\t{size}\t{call}\tproved")
         if counts:
             total = sum(counts.values())
             largest = sorted(counts.items(), key=lambda item: -item[1])[:5]
@@ -90,10 +97,10 @@ def families_of(counts):
     return list(dict.fromkeys(name.split("\t")[0] for name in counts if name))
 
 
-def instruction_table(call, counts, families):
+def instruction_table(call, counts, families, sizes=SIZES):
     rows, ratios, growths = [], [], []
     for family in families:
-        proved, plain = ([counts.get(f"{family}\t{n}\t{call}\t{who}") for n in SIZES] for who in ("proved", "plain"))
+        proved, plain = ([counts.get(f"{family}\t{n}\t{call}\t{who}") for n in sizes] for who in ("proved", "plain"))
         if proved[0] is None:
             continue
         ratio = [a / b for a, b in zip(proved, plain)]
@@ -101,20 +108,37 @@ def instruction_table(call, counts, families):
         ratios += ratio
         growths.append(growth)
         rows.append([family, f"{proved[-1]:,}", f"{plain[-1]:,}", *(f"{r:.2f}" for r in ratio), f"{growth:.2f}"])
-    head = ["Family", "proved, 1,024", "plain, 1,024", *(f"ratio, {n:,}" for n in SIZES), "growth 512 to 1,024"]
+    before, last = (f"{n:,}" for n in sizes[-2:])
+    head = ["Family", f"proved, {last}", f"plain, {last}", *(f"ratio, {n:,}" for n in sizes), f"growth {before} to {last}"]
     return table(head, rows), ratios, max(growths)
 
 
-def time_table(call, times, families):
-    rows = []
+def time_table(call, times, families, sizes=SIZES):
+    rows, ends = [], (sizes[0], sizes[-1])
     for family in families:
-        if (family, 64, call, "same") in times:
+        if (family, sizes[0], call, "same") in times:
             cells = []
-            for n in (64, 1024):
+            for n in ends:
                 (ratio, proved, plain), (same, _, _) = (times[family, n, call, mode] for mode in ("other", "same"))
                 cells += [f"{float(proved) / 1000:.1f}", f"{float(plain) / 1000:.1f}", f"{float(ratio):.2f}", f"{float(same):.2f}"]
             rows.append([family, *cells])
-    return table(["Family", *(f"{what}, {n:,}" for n in (64, 1024) for what in ("proved", "plain", "ratio", "ratio, same"))], rows)
+    return table(["Family", *(f"{what}, {n:,}" for n in ends for what in ("proved", "plain", "ratio", "ratio, same"))], rows)
+
+
+def against_typical(figures):
+    """By a figure for each family of texts of the largest size, the most that one takes of what a typical one takes, and which."""
+    family = max(figures, key=figures.get)
+    return figures[family] / figures[TYPICAL], family
+
+
+def worst_texts(texts):
+    """The same by instructions and by times, proved and plain."""
+    size = TEXT_SIZES[-1]
+    worst = {}
+    for place, who in ((1, "proved"), (2, "plain")):
+        worst[who, "instructions"] = against_typical({f: texts.counts[f"{f}\t{size}\timport\t{who}"] for f in texts.families})
+        worst[who, "time"] = against_typical({f: float(texts.times[f, size, "import", "other"][place]) for f in texts.families})
+    return worst
 
 
 def program_table(bench, program):
@@ -189,9 +213,10 @@ def worst(counts, families):
 
 
 class Measured:
-    """All that is measured of one kind of families: without a gap in the question ("whole"), or with one ("gap")."""
+    """All that is measured of one kind of families: without a gap in the question ("whole"), with one ("gap"), or of texts
+    ("import"). For these plain C has no shortcuts that it could take."""
 
-    def __init__(self, kind, bench, tuned):
+    def __init__(self, kind, bench, tuned=None):
         self.times = {}
         for line in output(bench, "time", kind).decode().splitlines():
             family, n, call, mode, *values = line.split("\t")
@@ -199,10 +224,22 @@ class Measured:
         self.dumps = callgrind(bench, "count", kind)
         self.counts = totals(self.dumps)
         self.families = families_of(self.counts)
-        self.tuned = totals(callgrind(tuned, "count", kind))
+        self.tuned = totals(callgrind(tuned, "count", kind)) if tuned else {}
 
 
-def summary_of(whole, gap, program_ratios):
+def import_summary(texts):
+    _, ratios, growth = instruction_table("import", texts.counts, texts.families, TEXT_SIZES)
+    worst = worst_texts(texts)
+    said = lambda who: ", ".join(f"{what} {worst[who, what][0]:.2f} ({worst[who, what][1]})" for what in ("instructions", "time"))
+    return [
+        ["the import against plain C with hash tables, geometric mean", f"{geometric_mean(ratios):.2f}; {max(ratios):.2f} at most"],
+        ["growth of the import from 32,768 to 65,536 bytes, in each family", f"{growth:.2f} at most"],
+        [f"the import of any text of 65,536 bytes against a typical one: at most {WORST_AIM}.00", said("proved")],
+        ["the same of plain C", said("plain")],
+    ]
+
+
+def summary_of(whole, gap, texts, program_ratios):
     _, question_ratios, question_growth = instruction_table("question", whole.counts, whole.families)
     _, check_ratios, check_growth = instruction_table("check", whole.counts, whole.families)
     _, gap_ratios, gap_growth = instruction_table("question", gap.counts, gap.families)
@@ -216,10 +253,19 @@ def summary_of(whole, gap, program_ratios):
         ["the same, with the three shortcuts in plain C", f"{gap_tuned[0]:.2f}; {worst(gap.tuned, gap.families)}"],
         ["growth from 512 to 1,024 facts, in each family: at most 2.30", f"question {question_growth:.2f}, with a gap {gap_growth:.2f}, check {check_growth:.2f} at most"],
         ["instructions of the program against the sum of its calls: at most 2.00", ", ".join(f"{r:.2f}" for r in program_ratios)],
+        *import_summary(texts),
     ], right=False)
 
 
-def sections(whole, gap, programs):
+def import_sections(texts):
+    return [
+        ("Instructions of one import, by the text's bytes", instruction_table("import", texts.counts, texts.families, TEXT_SIZES)[0]),
+        ("Where the instructions of an import go, 65,536 bytes", function_table(texts.dumps, "import", texts.families, TEXT_SIZES[-1])),
+        ("Times of one import, microseconds", time_table("import", texts.times, texts.families, TEXT_SIZES)),
+    ]
+
+
+def sections(whole, gap, texts, programs):
     """The results in full: headings, each with what stands under it."""
     both = "Another table at every call, and in the last column of each size the same one. Medians over interleaved pairs of calls."
     shortcuts = "`bench/plain.c` with `TUNED`: fields are read and written without a loop, a well-formed fact is told by three ranges."
@@ -236,20 +282,35 @@ def sections(whole, gap, programs):
         ("Times of one question with a gap, microseconds", time_table("question", gap.times, gap.families)),
         ("Times of one check, microseconds", time_table("check", whole.times, whole.families)),
         ("The program against the sum of its calls", programs),
+        *import_sections(texts),
     ]
 
 
+def demand_worst(texts):
+    """Ends with status 1 where the import of some text takes too long, by instructions or by time."""
+    for (who, what), (ratio, family) in worst_texts(texts).items():
+        if who == "proved" and ratio > WORST_AIM:
+            sys.exit(f"report.py: by {what}, the import of \"{family}\" takes {ratio:.1f} times what a typical one takes; the aim is at most {WORST_AIM}")
+
+
+def print_imports(bench):
+    texts = Measured("import", bench)
+    print(table(["Aim", "Measured"], import_summary(texts), right=False))
+    print("\n".join(f"### {heading}\n\n{body}" for heading, body in import_sections(texts)))
+    demand_worst(texts)
+
+
 def write_report(bench, tuned, program, folder):
-    whole, gap = Measured("whole", bench, tuned), Measured("gap", bench, tuned)
+    whole, gap, texts = Measured("whole", bench, tuned), Measured("gap", bench, tuned), Measured("import", bench)
     programs, program_ratios = program_table(bench, program)
-    summary = summary_of(whole, gap, program_ratios)
+    summary = summary_of(whole, gap, texts, program_ratios)
     compiler = output("cc", "--version").decode().splitlines()[0]
     text = "\n".join([
         BEGIN, "",
         summary,
-        f"Plain C: `bench/plain.c`, {compiler}, -O2. Ratio: proved / plain.", "",
+        f"Plain C: `bench/plain.c` and `bench/plain_import.c`, {compiler}, -O2. Ratio: proved / plain.", "",
         "![Ratio of instructions by family and number of facts](performance.svg)", "",
-        *(f"### {heading}\n\n{body}" for heading, body in sections(whole, gap, programs)),
+        *(f"### {heading}\n\n{body}" for heading, body in sections(whole, gap, texts, programs)),
         END,
     ])
     path = Path(folder) / "PERFORMANCE.md"
@@ -258,6 +319,7 @@ def write_report(bench, tuned, program, folder):
     ratios = [ratio for call in ("question", "check") for ratio in instruction_table(call, whole.counts, whole.families)[1]]
     (Path(folder) / "performance.svg").write_text(plot(whole.counts, whole.families, math.ceil(max(ratios))))
     print(summary + f"written to {path}")
+    demand_worst(texts)
 
 
 def compare(old, new):
@@ -281,6 +343,8 @@ def compare(old, new):
 if __name__ == "__main__":
     if len(sys.argv) == 5:
         write_report(*sys.argv[1:])
+    elif len(sys.argv) == 3 and sys.argv[1] == "import":
+        print_imports(sys.argv[2])
     elif len(sys.argv) == 3:
         compare(*sys.argv[1:])
     else:

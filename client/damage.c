@@ -1,5 +1,5 @@
 /* Damages a file for the tests: damage SEED < FILE > DAMAGED makes one to three small changes. The same seed makes the
- * same ones. */
+ * same ones. With `damage SEED nt` some of them are of what N-Triples have. */
 #include <stdint.h>
 #include <stdio.h>
 #include <stdlib.h>
@@ -10,6 +10,13 @@ enum { ROOM = 1 << 16 };
 static uint64_t state;
 static char bytes[ROOM];
 static size_t len;
+
+/* What may be put in or over. */
+static const char *const TABLE_TEXTS[] = {" ", "\n", "\r", "\t", "#", "0", "9", "x", "\xef\xbb\xbf", "\xff", ",", ";",
+                                          "\r\n", "    0", "65536", "type", "?", "60000"};
+static const char *const TRIPLE_TEXTS[] = {" ", "\n", "\r", "\t", "#", "<", ">", "\"", ".", "\\", "\xc3\xa4", "\xff", "_:x ", "@en", "^^<t>",
+                                           "<a>", "\"a\"", " .\n", "\x01"};
+static int triples;
 
 /* A number below n. */
 static size_t below(size_t n) {
@@ -45,13 +52,22 @@ static void put_literal(size_t at) {
     if (at < end) replace(at, end - at, "40001", 5);
 }
 
+/* Puts another token for the IRI at `at` or the next one behind it: vocabulary, a literal, a blank node or an IRI. */
+static void put_token(size_t at) {
+    static const char *const tokens[] = {"<http://www.w3.org/2000/01/rdf-schema#range>", "\"a\"@en", "_:a", "<a>"};
+    const char *text = tokens[below(4)];
+    while (at < len && bytes[at] != '<') at++;
+    size_t end = at;
+    while (end < len && bytes[end] != '>') end++;
+    if (end < len) replace(at, end + 1 - at, text, strlen(text));
+}
+
 /* One change: text put in or over, bytes taken away, the end cut off, a byte 0, a line or its rest repeated, a literal in a
- * number's place, another digit. */
+ * number's place or another token in an IRI's, another digit. */
 static void change(void) {
-    static const char *const texts[] = {" ", "\n", "\r", "\t", "#", "0", "9", "x", "\xef\xbb\xbf", "\xff", ",", ";",
-                                        "\r\n", "    0", "65536", "type", "?", "60000"};
     size_t at = below(len + 1), rest = len - at, few = rest < 4 ? rest : 4;
-    const char *text = texts[below(sizeof texts / sizeof *texts)];
+    const char *text = triples ? TRIPLE_TEXTS[below(sizeof TRIPLE_TEXTS / sizeof *TRIPLE_TEXTS)]
+                               : TABLE_TEXTS[below(sizeof TABLE_TEXTS / sizeof *TABLE_TEXTS)];
     switch (below(10)) {
     case 0: replace(at, 0, text, strlen(text)); break;
     case 1: replace(at, strlen(text) < rest ? strlen(text) : rest, text, strlen(text)); break;
@@ -63,7 +79,7 @@ static void change(void) {
         while (at > 0 && bytes[at - 1] != '\n') at--;
         repeat(at);
         break;
-    case 7: put_literal(at); break;
+    case 7: triples ? put_token(at) : put_literal(at); break;
     default:
         while (at < len && (bytes[at] < '1' || bytes[at] > '9')) at++;
         if (at < len) bytes[at] = (char)('0' + below(10));
@@ -72,7 +88,8 @@ static void change(void) {
 }
 
 int main(int argc, char **argv) {
-    if (argc != 2) return 2;
+    if (argc != 2 && argc != 3) return 2;
+    triples = argc == 3;
     state = 0x9e3779b97f4a7c15u * (strtoull(argv[1], NULL, 10) + 1);
     len = fread(bytes, 1, sizeof bytes / 2, stdin);
     for (size_t n = 1 + below(3); n > 0; n--) change();

@@ -57,14 +57,44 @@
  *       r = factbox_check(table, 64, x, 5, 12, output, used);  // FACTBOX_ACCEPTED, count 4
  *   }
  *
+ * A table can be made from N-Triples, W3C's RDF 1.1 form, as factbox_import takes them. The text has lines, which end with byte
+ * 10; the last may lack it. A line is blank (spaces and tabs), or has one statement, and then perhaps a comment from # on:
+ *
+ *   SUBJECT PREDICATE OBJECT .
+ *
+ *   subject      an IRI in < >
+ *   predicate    an IRI in < >
+ *   object       an IRI in < >, or a literal: text in " ", behind it perhaps a language tag, as @en, or a datatype, as ^^<IRI>
+ *
+ * Spaces and tabs, also none, may stand before, between and behind these and the full stop, but not inside a literal's parts
+ * or between them. An IRI has no byte up to 32 and none of < > " { } | ^ ` \; it may be relative or empty. A literal's text has
+ * any bytes but " \ 10 and 13, a comment any but 10 and 13. So there are no escapes, and byte 13 stands nowhere. Bytes above 127
+ * pass unread in IRIs, texts, labels and comments, and nowhere else. A blank node as subject or object gets a refusal of its own: it
+ * is _: and a label of letters, digits, _ : - . and bytes above 127, with neither - nor . first and no . last.
+ *
+ * Every different token gets a number, in order of first appearance, line by line, subject, predicate, object: IRIs 6, 7, 8 and
+ * so on, literals 40000, 40001 and so on; five IRIs are the vocabulary:
+ *
+ *   1   <http://www.w3.org/2000/01/rdf-schema#subClassOf>
+ *   2   <http://www.w3.org/2000/01/rdf-schema#subPropertyOf>
+ *   3   <http://www.w3.org/2000/01/rdf-schema#domain>
+ *   4   <http://www.w3.org/2000/01/rdf-schema#range>
+ *   5   <http://www.w3.org/1999/02/22-rdf-syntax-ns#type>
+ *
+ * A token is its bytes, from < to > or from the first quote to the end of tag or datatype: "a", "a"@en and "a"@EN are three.
+ *
+ *   uint8_t table[FACTBOX_TABLE_MAX];
+ *   uint64_t r = factbox_import(text, text_len, table, sizeof table);
+ *   size_t table_len = FACTBOX_TABLE_LINE * (size_t)factbox_count(r);  // where factbox_number(r) == FACTBOX_DONE
+ *
  * For every call:
  * - It ends, whatever it is given, and it needs no test of its input beforehand: what is wrong gets a refusal.
  * - The result has four numbers: number, place, count, filling (factbox_number, factbox_place, factbox_count,
  *   factbox_filling). The filling is 0 but for a yes to a question with a gap.
- * - A refusal (1 to 12) has count 0 and changes no lent memory.
+ * - A refusal (1 to 15) has count 0 and changes no lent memory.
  * - What is done is written from the front of the lent memory; what lies behind it keeps its value.
  * - A pointer may be NULL where its length is 0. Bytes may lie at any address; a row must be aligned for uint32_t.
- * - `output` and `row` that are written must not overlap what the same call reads: no overlap is tested for.
+ * - `output`, `row` and `table` that are written must not overlap what the same call reads: no overlap is tested for.
  * - No call keeps a pointer, allocates, or has memory of its own between calls, so calls may run at the same time as
  *   long as none writes memory that another reads or writes. A call takes at most FACTBOX_STACK_MAX bytes of stack.
  * - The library needs memcpy, memmove and memset and nothing else.
@@ -81,14 +111,14 @@ extern "C" {
 
 /* The numbers. Where no place is named, it is 0. A line is counted from 1. */
 enum {
-    FACTBOX_DONE = 0,       /* reading or writing is done; count: the table's facts */
+    FACTBOX_DONE = 0,       /* reading, writing or import is done; count: the table's facts */
     FACTBOX_SIZE = 1,       /* table not a multiple of 16 bytes, or above 16,384; row not a multiple of 3 numbers, or above 3,072 */
     FACTBOX_COLUMN = 2,     /* a field or the line end is not as laid out; place: the line */
     FACTBOX_TERM = 3,       /* a number is 0 or above 65535; place: the table's line, the row's fact, or 0 for the triple put */
     FACTBOX_BLANK = 4,      /* a number is 60000 to 65535 in a table, a row or the triple of a check, or as predicate of a question;
                              * or a question has two gaps; place: the table's line, the row's fact, or 0 for the triple put */
     FACTBOX_PART = 5,       /* vocabulary as subject or object, or a literal as predicate;
-                             * place: the table's line, the row's fact, or 0 for the triple put */
+                             * place: the table's line, the row's fact, the import's line, or 0 for the triple put */
     FACTBOX_ORDER = 6,      /* a fact is not above the one before it; place: the table's line or the row's fact */
     FACTBOX_ALLOWANCE = 7,  /* the allowance is above 1,024 */
     FACTBOX_SHORT = 8,      /* the lent memory is too short */
@@ -97,7 +127,11 @@ enum {
                              * 3, 4, 5 and 12 are for the table, a row to write and the triple put); place: the first such line */
     FACTBOX_END = 11,       /* the last line is not the triple put; place: the last line */
     FACTBOX_CLASS = 12,     /* a literal as subject or object of subclass, subproperty, domain or range, or as object of type;
-                             * tried after 5 and before 6; place: the table's line, the row's fact, or 0 for the triple put */
+                             * tried after 5 and before 6; place: the table's line, the row's fact, the import's line, or 0 for the
+                             * triple put */
+    FACTBOX_STATEMENT = 13, /* import: a line that is not as above, with the line as place; or a text above 65,536 bytes */
+    FACTBOX_UNKNOWN = 14,   /* import: a blank node as subject or object, on a line that is sound otherwise; place: the line */
+    FACTBOX_CROWD = 15,     /* import: more than 1,024 different facts */
     FACTBOX_YES = 90,       /* the triple follows, from no more table facts than allowed; count: the fewest it follows from;
                              * filling: what fills the gap, 0 without one */
     FACTBOX_NO = 91,        /* the triple does not follow; with a gap, it follows with no filling; count: 0 */
@@ -117,6 +151,7 @@ enum {
     FACTBOX_DERIVATION_LINE = 31,       /* bytes */
     FACTBOX_DERIVATION_LINES_MAX = 2047,
     FACTBOX_DERIVATION_MAX = 63457,     /* bytes */
+    FACTBOX_IMPORT_MAX = 65536,         /* bytes of a text to import */
     FACTBOX_STACK_MAX = 65536           /* bytes: no call takes more */
 };
 
@@ -149,6 +184,12 @@ uint64_t factbox_read(const uint8_t *table, size_t table_len, uint32_t *row, siz
 /* Writes a row of three numbers a fact as a table. `row_len` is in numbers. The place of a refusal is the fact's number.
  * Tried in this order: 1; then the facts, each for 3, 4, 5, 12, 6; 8. */
 uint64_t factbox_write(const uint32_t *row, size_t row_len, uint8_t *output, size_t output_len);
+
+/* Makes a table of a text in N-Triples, as above: the facts of its statements under their numbers, sorted, equal ones once, and
+ * no others. `table` has at least 16 bytes a fact; FACTBOX_TABLE_MAX bytes, 16,384, are enough for any text.
+ * Tried in this order: 13 for the text's size (place 0); the lines, each for 13, then 14; then the statements, each for 5
+ * (vocabulary as subject or object), then 12, repeats too; 15; 8. A line is counted from 1, blank ones and comments too. */
+uint64_t factbox_import(const uint8_t *text, size_t text_len, uint8_t *table, size_t table_len);
 
 /* The parts of a result: bits 0-7 number, 8-31 place, 32-47 count, 48-63 filling. */
 static inline unsigned factbox_number(uint64_t result) { return result & 0xff; }

@@ -1,6 +1,7 @@
 /* Lines that a person writes, read from a file: see lines.h. */
 #include "lines.h"
 #include "factbox.h"
+#include "names.h"
 #include "words.h"
 
 #include <errno.h>
@@ -61,8 +62,7 @@ int next_line(lines *in) {
     return 1;
 }
 
-/* A decimal number of 32 bits: NULL, or why it is none. */
-static const char *decimal(const char *text, size_t len, uint32_t *value) {
+const char *decimal(const char *text, size_t len, uint32_t *value) {
     uint64_t n = 0;
     for (size_t i = 0; i < len; i++) {
         if (!is_digit(text[i])) return "is no number";
@@ -84,7 +84,9 @@ static const char *no_field(const char *text, size_t len, size_t place, size_t c
     else if (gap && question) why = "is a gap, which can't be the allowance";
     else if (gap) why = place == PREDICATE ? "is a gap, which can't be a predicate" : "is a gap, which only a question may have";
     else if (place == PREDICATE && !is_digit(*text))
-        why = "is neither a number nor subclass, subproperty, domain, range or type";
+        why = has_names() ? "is neither a name nor a number nor subclass, subproperty, domain, range or type"
+                          : "is neither a number nor subclass, subproperty, domain, range or type";
+    else if (has_names() && place < FACT_FIELDS && !is_digit(*text)) why = "is neither a name nor a number";
     snprintf(wrong, sizeof wrong, "%s %s%s", quoted(text, len), why, hint);
     return wrong;
 }
@@ -93,7 +95,8 @@ const char *field_value(const char *text, size_t len, size_t place, size_t count
     uint32_t vocabulary = place == PREDICATE ? predicate_number(text, len) : 0;
     const char *why = decimal(text, len, value);
     if (!why) return NULL;
-    if (vocabulary) *value = vocabulary;
+    uint32_t name = place < FACT_FIELDS ? name_number(text, len) : 0;
+    if (vocabulary || name) *value = vocabulary ? vocabulary : name;
     else if (len == 1 && *text == '?' && takes_gap(place, count)) *value = FACTBOX_GAP;
     else return no_field(text, len, place, count, why);
     return NULL;
@@ -139,9 +142,9 @@ const char *line_fields(const char *text, size_t len, size_t count, uint32_t *fi
 }
 
 size_t load(const char *name, uint8_t *bytes, size_t most) {
-    FILE *file = open_file(name);
+    FILE *file = name ? open_file(name) : stdin;
     size_t len = fread(bytes, 1, most, file);
-    if (ferror(file)) fail("can't be read", name);
-    fclose(file);
+    if (ferror(file)) fail("can't be read", name ? name : "standard input");
+    if (name) fclose(file);
     return len;
 }

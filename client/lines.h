@@ -1,6 +1,7 @@
 /* Lines that a person writes, read from a file.
  *
- * A line has fields: numbers, or in the predicate's place one of the words subclass, subproperty, domain, range, type.
+ * A line has fields: numbers, or names where they are known (names.h), or in the predicate's place one of the words subclass,
+ * subproperty, domain, range, type.
  * A question's triple may have `?` for a gap. Between the fields stand spaces, tabs, commas or semicolons. A line as the box
  * lays it out, in fields of five columns that may touch, is read as well, also with `?` at the right of its columns. `#`
  * begins a comment. Blank lines, a carriage return before the line end, and a byte order mark before the first line are
@@ -45,10 +46,13 @@ size_t mark_length(const char *text, size_t len);
 
 int is_digit(char c);
 
+/* A decimal number of 32 bits: NULL, or why it is none. */
+const char *decimal(const char *text, size_t len, uint32_t *value);
+
 /* One field of five columns in the box's layout; 0 if it is not as laid out. */
 int layout_field(const char *text, uint32_t *value);
 
-/* Reads at most `most` bytes of a file. One that can't be read ends the program. */
+/* Reads at most `most` bytes of a file, or of standard input for NULL. One that can't be read ends the program. */
 size_t load(const char *name, uint8_t *bytes, size_t most);
 
 #endif

@@ -1,22 +1,29 @@
 /* The screen of the fact box: tries a table, puts questions or a derivation to it, and shows the answers in words.
  *
- *   screen TABLE [QUESTIONS]                               each line of QUESTIONS (or of standard input) is a question:
+ *   screen [--names NAMES] TABLE [QUESTIONS]               each line of QUESTIONS (or of standard input) is a question:
  *                                                          subject, predicate, object, allowance
- *   screen -c TABLE DERIVATION SUBJECT PREDICATE OBJECT    checks a derivation
+ *   screen [--names NAMES] -c TABLE DERIVATION SUBJECT PREDICATE OBJECT
+ *                                                          checks a derivation
  *
  * The table is tried first, also where no question follows. If it is refused, the screen shows the line and what is
  * probably wrong with it, and ends. A question is written as lines.h says: numbers apart, or in the box's own layout; the
  * predicate may be a word, and `?` (or 60000 to 65535) as subject or object asks for a term that may stand there. One that
  * is refused is shown with file and line; one that can't be read is named with them on standard error. The next are answered.
  *
- * Exit status: 0 all was answered; 1 the table, a question or the derivation was refused; 2 bad usage, a question that
+ * With NAMES, which `import` makes with a table, names stand in place of numbers, and a question may have a name as it is shown, if
+ * no space, comma, semicolon or # stands in it.
+ *
+ * Exit status: 0 all was answered; 1 the table, the names, a question or the derivation was refused; 2 bad usage, a question that
  * can't be read, a file that can't be read, a failed write, or a derivation of the box that its own check does not accept.
  * Where both 1 and 2 hold, it is 2. */
 #include "factbox.h"
 #include "fault.h"
 #include "lines.h"
+#include "names.h"
+#include "shown.h"
 #include "words.h"
 
+#include <getopt.h>
 #include <string.h>
 #include <unistd.h>
 
@@ -85,11 +92,43 @@ static unsigned field(const uint8_t *at) {
     return (unsigned)value;
 }
 
+/* The columns of subject, predicate and object in a derivation: numbers stand at the right of them, words and names at the left. */
+typedef struct {
+    size_t width[3];
+} layout;
+
+/* A term of the fact on a derivation's line, as it is shown. */
+static const char *shown_part(const uint8_t *line, size_t part) {
+    unsigned term = field(line + 15 + 5 * part);
+    return part == 1 ? predicate_word(term) : term_word(term);
+}
+
+/* Columns that are wide enough for every line. */
+static layout laid_out(const uint8_t *at, size_t count) {
+    layout l = {{5, 11, 5}};
+    for (size_t i = 0; i < 3 * count; i++) {
+        size_t wide = columns(shown_part(at + FACTBOX_DERIVATION_LINE * (i / 3), i % 3));
+        if (wide > l.width[i % 3]) l.width[i % 3] = wide;
+    }
+    return l;
+}
+
+/* A term in its columns. */
+static void show_part(const char *text, size_t width, int right) {
+    int spaces = (int)(width - columns(text));
+    printf("%*s%s%*s", right ? spaces : 0, "", text, right ? 0 : spaces, "");
+}
+
 /* One line each: its number, its fact, and why it stands there. */
 static void show_derivation(const uint8_t *at, size_t count) {
+    layout l = laid_out(at, count);
     for (size_t i = 1; i <= count; i++, at += FACTBOX_DERIVATION_LINE) {
         unsigned rule = field(at);
-        printf("  %4zu  %5u %-11s %5u   ", i, field(at + 15), predicate_word(field(at + 20)), field(at + 25));
+        printf("  %4zu  ", i);
+        for (size_t part = 0; part < 3; part++) {
+            show_part(shown_part(at, part), l.width[part], part != 1 && !has_names());
+            printf(part < 2 ? " " : "   ");
+        }
         if (rule == 0) printf("table\n");
         else printf("rule %u, %s, from %u and %u\n", rule, RULES[rule <= 6 ? rule : 0], field(at + 5), field(at + 10));
     }
@@ -109,7 +148,7 @@ static int show_yes(const uint32_t *question, unsigned count, unsigned filling) 
         return FAILED;
     }
     answer("YES", GREEN, question_words(question));
-    if (has_gap(question)) printf("%u, ", filling);
+    if (has_gap(question)) printf("%s, ", term_word(filling));
     printf("from %u table fact%s\n", count, plural(count));
     show_derivation(derivation, printed);
     return ANSWERED;
@@ -190,15 +229,40 @@ static int try_table(const char *name) {
     return ANSWERED;
 }
 
+/* Loads the names and says what is wrong with them, if anything is. */
+static int try_names(const char *name) {
+    static char names[NAMES_FILE_MAX + 1];
+    unsigned line;
+    size_t len = load(name, (uint8_t *)names, sizeof names);
+    const char *wrong = read_names(names, len, table, table_len, &line);
+    if (!wrong) return ANSWERED;
+    headline("REFUSED", RED);
+    printf("%s", name);
+    if (line > 0) printf(":%u", line);
+    printf(": %s\n", wrong);
+    return REFUSED;
+}
+
 int main(int argc, char **argv) {
-    int checking = argc > 1 && strcmp(argv[1], "-c") == 0;
-    if (asks_for_help(argc, argv) || (checking ? argc != 7 : argc != 2 && argc != 3)) {
-        fputs("usage: screen TABLE [QUESTIONS]\n       screen -c TABLE DERIVATION SUBJECT PREDICATE OBJECT\n", stderr);
+    static const struct option options[] = {{"names", required_argument, NULL, 'n'}, {NULL, 0, NULL, 0}};
+    const char *names = NULL;
+    int checking = 0, wrong = asks_for_help(argc, argv);
+    for (int option; !wrong && (option = getopt_long(argc, argv, "+c", options, NULL)) != -1;) {
+        if (option == 'c') checking = 1;
+        else if (option == 'n') names = optarg;
+        else wrong = 1;
+    }
+    char **files = argv + optind;
+    int count = argc - optind;
+    if (wrong || (checking ? count != 5 : count != 1 && count != 2)) {
+        fputs("usage: screen [--names NAMES] TABLE [QUESTIONS]\n"
+              "       screen [--names NAMES] -c TABLE DERIVATION SUBJECT PREDICATE OBJECT\n", stderr);
         return FAILED;
     }
-    int status = try_table(argv[1 + checking]);
+    int status = try_table(files[0]);
+    if (status == ANSWERED && names) status = try_names(names);
     flush();
-    if (status == ANSWERED) status = checking ? check(argv[3], argv + 4) : ask_all(open_lines(argv[2]));
+    if (status == ANSWERED) status = checking ? check(files[1], files + 2) : ask_all(open_lines(files[1]));
     flush();
     return status;
 }

@@ -12,12 +12,11 @@
 #include "factbox.h"
 #include "fault.h"
 #include "lines.h"
+#include "output.h"
 #include "words.h"
 
-#include <errno.h>
 #include <stdlib.h>
 #include <string.h>
-#include <sys/stat.h>
 #include <unistd.h>
 
 const char PROGRAM[] = "table";
@@ -130,37 +129,6 @@ static size_t in_words(const char *name) {
     return len;
 }
 
-/* Writes the result to a file that is open; 0 if that fails. */
-static int written(FILE *out, size_t len) {
-    int whole = fwrite(result, 1, len, out) == len;
-    return fclose(out) == 0 && whole;
-}
-
-/* Puts the result in the place of a file as a whole. If a write fails the old one stays: the first lines of a table may be a
- * sound table too. */
-static void replace(const char *name, size_t len) {
-    char beside[4096];
-    if ((size_t)snprintf(beside, sizeof beside, "%s.new", name) >= sizeof beside) fail("the name is too long", name);
-    FILE *out = fopen(beside, "wb");
-    if (!out) fail(strerror(errno), name);
-    if (written(out, len) && rename(beside, name) == 0) return;
-    remove(beside);
-    fail("can't be written", name);
-}
-
-/* Writes the result out: to standard output, a file, or what else there is of that name, as a device. */
-static void put_out(const char *name, size_t len) {
-    struct stat there;
-    if (name && (stat(name, &there) != 0 || S_ISREG(there.st_mode))) {
-        replace(name, len);
-        return;
-    }
-    FILE *out = name ? fopen(name, "wb") : stdout;
-    if (!name) name = "standard output";
-    if (!out) fail(strerror(errno), name);
-    if (!written(out, len)) fail("can't be written", name);
-}
-
 int main(int argc, char **argv) {
     const char *out = NULL;
     int reverse = 0, wrong = asks_for_help(argc, argv);
@@ -174,13 +142,13 @@ int main(int argc, char **argv) {
         return 2;
     }
     if (reverse) {
-        put_out(out, in_words(argv[optind]));
+        put_out(&(output){out, result, in_words(argv[optind])}, 1);
         return 0;
     }
     if (optind == argc) take(open_lines(NULL));
     for (int i = optind; i < argc; i++) take(open_lines(argv[i]));
     if (faults > 0) return 1;
-    put_out(out, make());
+    put_out(&(output){out, result, make()}, 1);
     fprintf(stderr, "table: %zu fact%s, %zu repeat%s dropped\n", count, plural(count), repeats, plural(repeats));
     return 0;
 }

@@ -12,7 +12,7 @@
 /* Memory between two pages that may not be touched. */
 typedef struct { uint8_t *begin, *end; } arena;
 
-enum { ROOM = 1 << 16 };
+enum { ROOM = 1 << 17 };
 
 static arena new_arena(void) {
     size_t page = (size_t)sysconf(_SC_PAGESIZE);
@@ -85,6 +85,8 @@ static void empty_and_null(void) {
         EXPECT(factbox_read(table, 64, row, 0) == FACTBOX_SHORT);
         EXPECT(factbox_write(row, 0, out, 0) == FACTBOX_DONE);
         EXPECT(factbox_write((const uint32_t[]){10, 1, 11}, 3, out, 0) == FACTBOX_SHORT);
+        EXPECT(factbox_import(e, 0, out, 0) == FACTBOX_DONE);
+        EXPECT(factbox_import((const uint8_t *)"<a> <b> <c> .", 13, out, 0) == FACTBOX_SHORT);
     }
 }
 
@@ -166,15 +168,70 @@ static void class_writes_nothing(void) {
     EXPECT(untouched(a, out, 0));
 }
 
+/* Puts these facts as a text, each with an IRI and a literal of its own; its length. */
+static size_t text_of(uint32_t facts, char *text) {
+    size_t len = 0;
+    for (uint32_t i = 0; i < facts; i++) len += (size_t)sprintf(text + len, "<%u> <p> \"%u\" .\n", (unsigned)i, (unsigned)i);
+    return len;
+}
+
+/* The import of a text, with its last line end and without it, into memory that is just enough writes the table and nothing else;
+ * into memory that is one too short, nothing. The text can't be written, and no byte beside it can be read. */
+static void imported(uint32_t facts, place at) {
+    static char text[FACTBOX_IMPORT_MAX];
+    static uint8_t table[FACTBOX_TABLE_MAX];
+    static arena input, output;
+    if (!input.begin) input = new_arena(), output = new_arena();
+    size_t len = text_of(facts, text), bytes = FACTBOX_TABLE_LINE * (size_t)facts;
+    uint64_t count = (uint64_t)facts << 32;
+    EXPECT(factbox_import((const uint8_t *)text, len, table, sizeof table) == count);
+    for (size_t cut = 0; cut < (facts ? 2 : 1); cut++) {
+        const uint8_t *t = put(input, text, len - cut, at.at_end, at.shift);
+        uint8_t *out = lend(output, bytes, at.at_end, at.shift);
+        EXPECT(factbox_import(t, len - cut, out, bytes) == count);
+        EXPECT(memcmp(out, table, bytes) == 0 && untouched(output, out, bytes));
+        if (facts == 0) continue;
+        out = lend(output, bytes - 1, at.at_end, at.shift);
+        EXPECT(factbox_import(t, len - cut, out, bytes - 1) == FACTBOX_SHORT);
+        EXPECT(untouched(output, out, 0));
+    }
+}
+
+/* Texts that are refused, at the end of what may be read, cut anywhere: no call writes, and none reads on. */
+static void refused_texts(void) {
+    static const char line[] = "<a> <b> \"c\"^^<d> . <a> <b> \"c\"@e-f . _:g.h #i\n\r<j> <b> _:k. <b> <c> .";
+    static const uint64_t numbers[] = {FACTBOX_DONE, FACTBOX_STATEMENT, FACTBOX_UNKNOWN};
+    arena input = new_arena(), a = new_arena();
+    uint8_t *out = lend(a, FACTBOX_TABLE_MAX, 0, 0);
+    for (size_t from = 0; from < sizeof line - 1; from++) {
+        for (size_t to = from; to < sizeof line; to++) {
+            uint64_t r = factbox_import(put(input, line + from, to - from, 1, 0), to - from, out, 0), n = factbox_number(r);
+            EXPECT(n == numbers[0] || n == numbers[1] || n == numbers[2] || r == FACTBOX_SHORT);
+        }
+    }
+    EXPECT(untouched(a, out, 0));
+    static uint8_t large[FACTBOX_IMPORT_MAX + 1];
+    memset(large, '\n', sizeof large);
+    EXPECT(factbox_import(put(input, large, sizeof large, 1, 0), sizeof large, out, FACTBOX_TABLE_MAX) == FACTBOX_STATEMENT);
+    EXPECT(factbox_import(put(input, large, FACTBOX_IMPORT_MAX, 1, 0), FACTBOX_IMPORT_MAX, out, FACTBOX_TABLE_MAX) == FACTBOX_DONE);
+    large[FACTBOX_IMPORT_MAX - 1] = '"';
+    EXPECT(factbox_import(put(input, large, FACTBOX_IMPORT_MAX, 1, 0), FACTBOX_IMPORT_MAX, out, FACTBOX_TABLE_MAX) == (FACTBOX_STATEMENT | 65536 << 8));
+    EXPECT(untouched(a, out, 0));
+}
+
 int main(void) {
     static const uint32_t sizes[] = {0, 1, 2, 3, 7, 64, 1023, 1024};
     guard_page_faults();
     empty_and_null();
     gap_writes_its_lines();
     class_writes_nothing();
+    refused_texts();
     for (size_t i = 0; i < sizeof sizes / sizeof *sizes; i++) {
-        placed(sizes[i], (place){1, 0});
-        for (size_t shift = 0; shift < 16; shift++) placed(sizes[i], (place){0, shift});
+        for (size_t shift = 0; shift <= 16; shift++) {
+            place at = {shift == 16, shift % 16};
+            placed(sizes[i], at);
+            imported(sizes[i], at);
+        }
     }
     return finish("test_memory");
 }

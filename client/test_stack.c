@@ -1,6 +1,6 @@
 /* The stack that each call takes. A call runs on a thread whose stack was painted beforehand; what is no longer painted was
  * used. The inputs are full tables that lead search and check through every rule, with yes, no, long and refusals, with a
- * gap and without. A function that takes more than a call may shows that the measure would see it. */
+ * gap and without; and full texts to import, with the most different tokens, the longest ones, and refusals. A function that takes more than a call may shows that the measure would see it. */
 #include "factbox.h"
 #include "test.h"
 
@@ -11,12 +11,13 @@
 
 enum { STACK = 1 << 20, PAINT = 0xa5, HALF = 511 };
 
-enum { WRITE, READ, QUESTION, CHECK, KNOWN, CALLS };
-static const char *const NAMES[] = {"write", "read", "question", "check"};
+enum { WRITE, READ, QUESTION, CHECK, IMPORT, KNOWN, CALLS };
+static const char *const NAMES[] = {"write", "read", "question", "check", "import"};
 
 static uint8_t table[FACTBOX_TABLE_MAX], lines[FACTBOX_DERIVATION_MAX];
 static uint32_t row[FACTBOX_ROW_MAX];
-static size_t lines_len;
+static char text[FACTBOX_IMPORT_MAX + 1];
+static size_t lines_len, text_len;
 
 /* What is called, and what was found: the call's answer, and the most stack of each call. */
 typedef struct { int which; uint32_t fact[3], limit; uint64_t answer; uint8_t *top; } job;
@@ -41,6 +42,7 @@ static void *run(void *argument) {
     case CHECK:
         j->answer = factbox_check(table, sizeof table, j->fact[0], j->fact[1], j->fact[2], lines, lines_len);
         break;
+    case IMPORT: j->answer = factbox_import((const uint8_t *)text, text_len, table, sizeof table); break;
     default: j->answer = known_amount(0x11); break;
     }
     return NULL;
@@ -103,6 +105,40 @@ static void calls(uint32_t s, uint32_t p, uint32_t o, uint32_t count) {
     EXPECT(measure((job){.which = CHECK, .fact = {s, p, o}}) == FACTBOX_FORM);
 }
 
+/* A text of so many facts, each with tokens of its own. */
+static void tokens(unsigned facts) {
+    text_len = 0;
+    for (unsigned i = 0; i < facts; i++) text_len += (size_t)sprintf(text + text_len, "<s%u> <p%u> \"o%u\"@en .\n", i, i, i);
+}
+
+/* The import of the text with what is put behind it. */
+static unsigned import(const char *more) {
+    size_t len = text_len;
+    strcpy(text + len, more);
+    text_len += strlen(more);
+    unsigned number = measure((job){.which = IMPORT});
+    text_len = len;
+    return number;
+}
+
+/* Full texts: the most tokens, a crowd, all refusals, and one token as long as the text. */
+static void imports(void) {
+    tokens(1024);
+    EXPECT(import("") == FACTBOX_DONE);
+    EXPECT(import("x") == FACTBOX_STATEMENT);
+    EXPECT(import("_:a <b> _:c .") == FACTBOX_UNKNOWN);
+    EXPECT(import("<a> <http://www.w3.org/2000/01/rdf-schema#range> \"c\" .") == FACTBOX_CLASS);
+    EXPECT(import("<http://www.w3.org/2000/01/rdf-schema#range> <b> <c> .") == FACTBOX_PART);
+    EXPECT(import("<a> <b> <c> .") == FACTBOX_CROWD);
+    tokens(2000);
+    EXPECT(import("") == FACTBOX_CROWD);
+    memset(text, 'x', FACTBOX_IMPORT_MAX);
+    memcpy(text, "<a> <b> \"", 9);
+    text_len = FACTBOX_IMPORT_MAX - 2;
+    EXPECT(import("\".") == FACTBOX_DONE);
+    EXPECT(import("\"\\") == FACTBOX_STATEMENT);
+}
+
 /* Everything. The first time, the dynamic linker may look up memset and its like, on the call's stack. */
 static void all(void) {
     memset(most, 0, sizeof most);
@@ -110,6 +146,7 @@ static void all(void) {
     chain(2), calls(6, 2, 1030, 1024);
     joined(3), calls(6, 5, 20000 + HALF, 1024), calls(6, 10000 + HALF, 7, HALF + 1);
     joined(4), calls(7, 5, 20000 + HALF, 1024);
+    imports();
     measure((job){.which = KNOWN});
 }
 

@@ -1,10 +1,15 @@
 /* Words that the C programs share: see words.h. */
 #include "words.h"
 #include "factbox.h"
+#include "names.h"
+#include "shown.h"
 
 #include <stdio.h>
 #include <stdlib.h>
 #include <string.h>
+
+/* Texts with three terms have room for their names. */
+enum { TEXT_ROOM = 1024 };
 
 enum { VOCABULARY_LAST = 5, LITERAL_FIRST = 40000, BLANK_FIRST = FACTBOX_GAP, TERM_LAST = 65535 };
 
@@ -32,6 +37,9 @@ static const char *const REFUSALS[] = {
     "step: neither a table line nor what the rule gives",
     "end: the last line is not the fact put",
     "class: a literal as subject or object of subclass, subproperty, domain or range, or as object of type",
+    "statement: not in the form that the import takes, or above 65,536 bytes",
+    "unknown node: a blank node as subject or object",
+    "crowd: more than 1,024 different facts",
 };
 
 /* What belongs in the fields of a fact with each predicate of the vocabulary, where no literal may stand. */
@@ -49,11 +57,18 @@ void fail(const char *what, const char *name) {
     exit(2);
 }
 
-const char *predicate_word(uint32_t predicate) {
-    static char number[16];
-    if (predicate >= 1 && predicate <= VOCABULARY_LAST) return VOCABULARY[predicate];
-    snprintf(number, sizeof number, "%u", (unsigned)predicate);
+const char *term_word(uint32_t term) {
+    static char numbers[4][16];
+    static size_t next;
+    const char *name = shown_name(term);
+    if (name) return name;
+    char *number = numbers[next++ % 4];
+    snprintf(number, sizeof *numbers, "%u", (unsigned)term);
     return number;
+}
+
+const char *predicate_word(uint32_t predicate) {
+    return predicate >= 1 && predicate <= VOCABULARY_LAST ? VOCABULARY[predicate] : term_word(predicate);
 }
 
 uint32_t predicate_number(const char *word, size_t len) {
@@ -61,6 +76,8 @@ uint32_t predicate_number(const char *word, size_t len) {
         if (strlen(VOCABULARY[i]) == len && memcmp(VOCABULARY[i], word, len) == 0) return i;
     return 0;
 }
+
+const char *belonging(uint32_t predicate, size_t field) { return predicate <= VOCABULARY_LAST ? BELONGS[predicate][field] : NULL; }
 
 const char *refusal_words(unsigned number) {
     return number < sizeof REFUSALS / sizeof *REFUSALS ? REFUSALS[number] : "";
@@ -78,7 +95,7 @@ static int is_literal(uint32_t term) { return term >= LITERAL_FIRST && term < BL
 static const char *class_fault(const uint32_t *fact, size_t field) {
     static char text[192];
     uint32_t predicate = fact[1];
-    const char *what = predicate <= VOCABULARY_LAST ? BELONGS[predicate][field] : NULL;
+    const char *what = belonging(predicate, field);
     if (!what || !is_literal(fact[field])) return NULL;
     snprintf(text, sizeof text,
              "is a literal (40000 to 59999); the %s of %s must be a %s: put the %s's number, a name (6 to 39999)",
@@ -104,12 +121,12 @@ static const char *number_fault(unsigned number, const uint32_t *fact, size_t fi
 }
 
 const char *fact_fault(unsigned number, const uint32_t *fact, size_t *field) {
-    static char text[256];
+    static char text[TEXT_ROOM];
     while (*field < 3) {
         size_t at = (*field)++;
         const char *why = number_fault(number, fact, at);
         if (!why) continue;
-        snprintf(text, sizeof text, "the %s, %u, %s", FIELD_NAMES[at], (unsigned)fact[at], why);
+        snprintf(text, sizeof text, "the %s, %s, %s", FIELD_NAMES[at], term_word(fact[at]), why);
         return text;
     }
     return NULL;
@@ -135,25 +152,19 @@ const char *question_fault(unsigned number, const uint32_t *question, size_t *fi
 }
 
 const char *fact_words(const uint32_t *fact) {
-    static char text[64];
-    snprintf(text, sizeof text, "%u %s %u", (unsigned)fact[0], predicate_word(fact[1]), (unsigned)fact[2]);
+    static char text[TEXT_ROOM];
+    snprintf(text, sizeof text, "%s %s %s", term_word(fact[0]), predicate_word(fact[1]), term_word(fact[2]));
     return text;
 }
 
-/* A subject or object as its number, `?` for a gap. */
-static void put_term(char text[16], uint32_t term) {
-    if (is_blank(term)) strcpy(text, "?");
-    else snprintf(text, 16, "%u", (unsigned)term);
-}
+/* A subject or object as a term, `?` for a gap. */
+static const char *end_word(uint32_t term) { return is_blank(term) ? "?" : term_word(term); }
 
 const char *question_words(const uint32_t *question) {
-    static char text[64];
-    char subject[16], object[16];
+    static char text[TEXT_ROOM];
     uint32_t s = question[0], p = question[1], o = question[2];
     int known = p >= 1 && p <= VOCABULARY_LAST, one = is_blank(s) + is_blank(p) + is_blank(o) == 1;
-    const char *predicate = is_blank(p) ? "?" : predicate_word(p);
-    put_term(subject, s);
-    put_term(object, o);
+    const char *subject = end_word(s), *predicate = is_blank(p) ? "?" : predicate_word(p), *object = end_word(o);
     if (one && is_blank(s)) snprintf(text, sizeof text, "some X %s %s", known ? VERBS[p] : predicate, object);
     else if (one && is_blank(o) && known) snprintf(text, sizeof text, "%s %s", subject, GAP_VERBS[p]);
     else if (one && is_blank(o)) snprintf(text, sizeof text, "%s %s some X", subject, predicate);
@@ -165,16 +176,18 @@ const char *quoted(const char *text, size_t len) {
     enum { SHOWN = 48 };
     static char out[4 * SHOWN + 8];
     char *at = out;
+    size_t i = 0, n;
     *at++ = '"';
-    for (size_t i = 0; i < len && i < SHOWN; i++) {
-        unsigned char c = (unsigned char)text[i];
+    for (; i < len && i < SHOWN; i += n) {
+        char c = text[i];
+        n = character_length(text + i, len - i);
+        if (n == 0) n = 1;
         if (c == '\t') at += sprintf(at, "\\t");
         else if (c == '\r') at += sprintf(at, "\\r");
         else if (c == '\\' || c == '"') at += sprintf(at, "\\%c", c);
-        else if (c < ' ' || c > '~') at += sprintf(at, "\\x%02x", c);
-        else *at++ = (char)c;
+        else at = put_shown(at, text + i, n);
     }
-    strcpy(at, len > SHOWN ? "\".." : "\"");
+    strcpy(at, i < len ? "\".." : "\"");
     return out;
 }
 

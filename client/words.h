@@ -1,5 +1,5 @@
-/* Words that the C programs share: predicates, refusals, which field of a fact earns one, and questions with a gap; and
- * whether help is asked for. */
+/* Words that the C programs share: terms and predicates, refusals, which field of a fact earns one, and questions with a gap;
+ * and whether help is asked for. */
 #ifndef WORDS_H
 #define WORDS_H
 
@@ -18,11 +18,18 @@ int asks_for_help(int argc, char **argv);
 /* Says on standard error what is wrong with the thing named, and ends the program with status 2. */
 _Noreturn void fail(const char *what, const char *name);
 
-/* A predicate of the vocabulary as its word, any other as its number. The text holds until the next call. */
+/* A term by its name, if names are known (names.h), or else by its number. The text holds for four calls. */
+const char *term_word(uint32_t term);
+
+/* A predicate of the vocabulary as its word, any other as a term. */
 const char *predicate_word(uint32_t predicate);
 
 /* The number of a vocabulary word of `len` bytes; 0 for any other word. */
 uint32_t predicate_number(const char *word, size_t len);
+
+/* What belongs in a field of a fact with a predicate of the vocabulary, "class" or "property", where no literal may stand; NULL
+ * where one may. */
+const char *belonging(uint32_t predicate, size_t field);
 
 /* What a refusal means: its word, then a sentence. */
 const char *refusal_words(unsigned number);

@@ -1,0 +1,22 @@
+/* What a program has made, written out so that a failure leaves no half file: the first lines of a table may be a sound table too. */
+#ifndef OUTPUT_H
+#define OUTPUT_H
+
+#include <stddef.h>
+
+/* Bytes and the file that they are for; NULL is standard output. */
+typedef struct {
+    const char *name;
+    const void *bytes;
+    size_t len;
+} output;
+
+/* Writes them, to standard output, a file, or what else there is of that name, as a device. Files are written beside the old ones,
+ * as NAME.new, and put in their places when all that is to be written is. If a write fails the program ends with status 2,
+ * nothing is left beside, and the old files are as they were. */
+void put_out(const output *outputs, size_t count);
+
+/* Whether two names are of one file. */
+int is_same_file(const char *a, const char *b);
+
+#endif
