@@ -51,14 +51,14 @@ same-fact : (f g : Fact) → before f g ≡ false → before g f ≡ false → f
 same-fact f g p q =
     ⊎-elim (λ (t : T (before f g)). absurd (rw p at t)) (λ r. ⊎-elim (λ (e : f ≡ g). e) (λ (t : T (before g f)). absurd (rw q at t)) r) (before-total f g)
 
-pub with-has : (f : Fact) (gs : List Fact) → List·Memᴰ f (with f gs)
+with-has : (f : Fact) (gs : List Fact) → List·Memᴰ f (with f gs)
 unfolding with
 with-has f [] = List·Memᴰ·head refl
 with-has f (g ∷ gs) =
     by-cases (before f g) (λ p. rw p (List·Memᴰ·head refl))
     (λ p. by-cases (before g f) (λ q. rw (p, q) (List·Memᴰ·tail (with-has f gs))) (λ q. rw (p, q) (List·Memᴰ·head (same-fact f g p q))))
 
-pub with-still : (f x : Fact) (gs : List Fact) → List·Memᴰ x gs → List·Memᴰ x (with f gs)
+with-still : (f x : Fact) (gs : List Fact) → List·Memᴰ x gs → List·Memᴰ x (with f gs)
 unfolding with
 with-still f x [] m = absurd (List·Memᴰ·not-nil m)
 with-still f x (g ∷ gs) m =
@@ -84,7 +84,7 @@ gathered-only x gs (f ∷ fs) m =
     ⊎-elim (λ (l : List·Memᴰ x (with f gs)). ⊎-elim (λ (e : x ≡ f). inr (List·Memᴰ·head e)) (λ (r : List·Memᴰ x gs). inl r) (with-only f x gs l))
     (λ (l : List·Memᴰ x fs). inr (List·Memᴰ·tail l)) (gathered-only x (with f gs) fs m)
 
-pub gathered-still : (x : Fact) (gs fs : List Fact) → List·Memᴰ x gs → List·Memᴰ x (gatheredWith gs fs)
+gathered-still : (x : Fact) (gs fs : List Fact) → List·Memᴰ x gs → List·Memᴰ x (gatheredWith gs fs)
 unfolding gatheredWith
 gathered-still x gs [] m = m
 gathered-still x gs (f ∷ fs) m = gathered-still x (with f gs) fs (with-still f x gs m)
@@ -128,18 +128,9 @@ held-or-new f (g ∷ gs) =
     (λ q. ⊎-elim (λ (m : List·Memᴰ f gs). inl (List·Memᴰ·tail m)) (λ (e : length (with f gs) ≡ suc (length gs)). inr (rw (p, q, e))) (held-or-new f gs))
     (λ q. inl (List·Memᴰ·head (same-fact f g p q))))
 
-pub with-new : (f : Fact) (gs : List Fact) → (List·Memᴰ f gs → ⊥) → length (with f gs) ≡ suc (length gs)
-with-new f gs n = ⊎-elim (λ (m : List·Memᴰ f gs). absurd (n m)) (λ (e : length (with f gs) ≡ suc (length gs)). e) (held-or-new f gs)
-
--- ---- the number of facts never falls
-
+-- the number of facts never falls
 pub with-length : (f : Fact) (gs : List Fact) → length gs ≤ length (with f gs)
 unfolding with
 with-length f [] = omega arith
 with-length f (g ∷ gs) =
     by-cases (before f g) (λ p. rw p (omega arith)) (λ p. by-cases (before g f) (λ q. rw (p, q) (omega (arith, with-length f gs))) (λ q. rw (p, q) (omega arith)))
-
-pub gathered-grows : (gs fs : List Fact) → length gs ≤ length (gatheredWith gs fs)
-unfolding gatheredWith
-gathered-grows gs [] = omega arith
-gathered-grows gs (f ∷ fs) = omega (arith, with-length f gs, gathered-grows (with f gs) fs)

@@ -1,19 +1,20 @@
 -- The facts of statements, one behind the other: later statements change no fact, and a fact that is held brings no new token.
 -- Assumes nothing.
-use mathlib.Core.Path.{_≡_, refl, sym, ap, subst, _∙_}
+use mathlib.Core.Path.{_≡_, refl, sym, ap, _∙_}
 use mathlib.Core.Logic.{⊎-elim}
 use mathlib.Core.List.{List, [], _∷_, _++_, map, List·Memᴰ, List·Memᴰ·head, List·Memᴰ·tail, List·Memᴰ·not-nil, List·Memᴰ·cases-cons}
-use Prim.Native.Nat.{ℕ, _≤_}
+use Prim.Native.Nat.{_≤_}
 use lib.ListN.{length}
 use Rattle.facts.specs.declared.Fact.{Fact}
 use Rattle.ntriples.specs.Tokens.{Token}
 use Rattle.numbering.specs.Numbering.{Known}
-use Rattle.numbering.specs.Vocabulary.{termOf, withTerm, knownAfter, unknown, known}
+use Rattle.numbering.specs.Vocabulary.{withTerm, knownAfter, unknown, known}
 use Rattle.numbering.proofs.Terms.{Numbered, after-append, after-still, after-numbered, after-kept, term-injective}
 use Rattle.gathering.specs.Gathered.{with, gatheredWith, gathered}
 use Rattle.gathering.proofs.Gathered.{gathered-only}
 use Rattle.imports.specs.Lines.{Statement, tokens}
 use Rattle.imports.specs.Import.{knownBy, factOf, factsOf}
+use Rattle.imports.proofs.Sizes.{tokens-among}
 
 -- the tokens of one statement
 abbrev three : Statement → List Token
@@ -35,10 +36,10 @@ known-snoc ss s = after-one ss s
 -- ---- tokens of statements have numbers
 
 -- the three tokens of a statement have numbers
-pub record Whole (k : Known) (s : Statement) : Type 0 where
-  pub subject : Numbered k (s .subject)
-  pub predicate : Numbered k (s .predicate)
-  pub object : Numbered k (s .object)
+record Whole (k : Known) (s : Statement) : Type 0 where
+  subject : Numbered k (s .subject)
+  predicate : Numbered k (s .predicate)
+  object : Numbered k (s .object)
 
 whole-of : (k : Known) (s : Statement) → ((t : Token) → List·Memᴰ t (three s) → Numbered k t) → Whole k s
 whole-of k s h =
@@ -54,21 +55,14 @@ of-whole k s w t m =
     (λ l. ⊎-elim (λ (e : t ≡ s .predicate). rw e (w .predicate))
     (λ n. ⊎-elim (λ (e : t ≡ s .object). rw e (w .object)) (λ o. absurd (List·Memᴰ·not-nil o)) (List·Memᴰ·cases-cons n)) (List·Memᴰ·cases-cons l)) (List·Memᴰ·cases-cons m)
 
--- a token of one of the statements is one of their tokens
-pub in-tokens : (ss : List Statement) (s : Statement) (t : Token) → List·Memᴰ s ss → List·Memᴰ t (three s) → List·Memᴰ t (tokens ss)
-unfolding tokens
-in-tokens [] s t m l = absurd (List·Memᴰ·not-nil m)
-in-tokens (u ∷ ss) s t m l =
-    ⊎-elim (λ (e : s ≡ u). front (subst (λ (x : Statement). List·Memᴰ t (three x)) e l)) (λ (n : List·Memᴰ s ss). List·Memᴰ·tail (List·Memᴰ·tail (List·Memᴰ·tail (in-tokens ss s t n l)))) (List·Memᴰ·cases-cons m)
-  where
-    front : List·Memᴰ t (three u) → List·Memᴰ t (u .subject ∷ u .predicate ∷ u .object ∷ tokens ss)
-    front h =
-        ⊎-elim (λ (e : t ≡ u .subject). List·Memᴰ·head e)
-        (λ a. List·Memᴰ·tail (⊎-elim (λ (e : t ≡ u .predicate). List·Memᴰ·head e)
-        (λ b. List·Memᴰ·tail (⊎-elim (λ (e : t ≡ u .object). List·Memᴰ·head e) (λ c. absurd (List·Memᴰ·not-nil c)) (List·Memᴰ·cases-cons b))) (List·Memᴰ·cases-cons a))) (List·Memᴰ·cases-cons h)
-
-pub all-whole : (ss : List Statement) (s : Statement) → List·Memᴰ s ss → Whole (knownBy ss) s
-all-whole ss s m = whole-of (knownBy ss) s (λ t l. after-numbered unknown (tokens ss) t (in-tokens ss s t m l))
+all-whole : (ss : List Statement) (s : Statement) → List·Memᴰ s ss → Whole (knownBy ss) s
+all-whole ss s m =
+    let t = tokens-among s ss m in
+    record {
+      subject = after-numbered unknown (tokens ss) (s .subject) (t .0);
+      predicate = after-numbered unknown (tokens ss) (s .predicate) (t .1);
+      object = after-numbered unknown (tokens ss) (s .object) (t .2)
+    }
 
 -- later tokens change no fact
 later : (k : Known) (ts : List Token) (s : Statement) → Whole k s → Whole (knownAfter k ts) s × (factOf (knownAfter k ts) s ≡ factOf k s)

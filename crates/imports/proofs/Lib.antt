@@ -6,4 +6,5 @@ pub mod Samples
 pub mod Facts
 pub mod Collecting
 pub mod Underway
+pub mod Findings
 pub mod Imported

@@ -1,7 +1,7 @@
 -- The facts of an input while they are gathered: the index of tokens and the row of keys after some of its statements.
 -- Assumes nothing.
 use mathlib.Core.Path.{_≡_}
-use mathlib.Core.List.{List, [], _∷_, _++_}
+use mathlib.Core.List.{List, _++_}
 use Prim.Native.Nat.{ℕ, _+_, _*_, _≤_, _<_}
 use lib.ListN.{length, drop}
 use Rattle.facts.specs.declared.Fact.{Fact}

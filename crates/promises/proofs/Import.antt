@@ -2,14 +2,13 @@
 -- Assumes nothing.
 use mathlib.Core.Path.{_≡_, refl, sym, ap, subst, _∙_}
 use mathlib.Core.Logic.{_⊎_, inl, inr, ⊎-elim, _↔_}
-use mathlib.Core.Bool.{Bool, true, false, not, _&&_}
-use mathlib.Core.List.{List, [], _∷_, _++_, List·Memᴰ·head, List·Memᴰ·tail, List·Memᴰ·not-nil, List·Memᴰ·cases-cons}
+use mathlib.Core.Bool.{Bool, true, false}
+use mathlib.Core.List.{List, _∷_, _++_, List·Memᴰ·not-nil, List·Memᴰ·cases-cons}
 use Prim.Native.Nat.{ℕ, _+_, _*_, _≤_, _<_}
 use native.Mathlib.Omega.{arith}
 use native.Mathlib.Decide.{decLt}
-use lib.ListN.{length, getD, take, drop}
+use lib.ListN.{length, take, drop}
 use lib.Seq.{take-append-seam}
-use lib.Dec.{eqb}
 use Rattle.columns.specs.Lines.{over}
 use Rattle.facts.specs.declared.Fact.{Fact}
 use Rattle.facts.specs.declared.Refusal.{Refusal}
@@ -39,7 +38,6 @@ use Rattle.imports.proofs.Imported.{import-refused}
 use Rattle.entail.specs.Packed.{unpacked}
 use Rattle.entail.specs.Calls.{ReadCall, ImportCall}
 use Rattle.entail.proofs.Unpacked.{import-unpacked}
-use Rattle.demands.specs.Refusals.{SoundTable}
 use Rattle.demands.proofs.Refusals.{Lacks, answers-lack, settled-answers, memory-unchanged}
 use Rattle.demands.proofs.Sound.{settled-names}
 use Rattle.demands.proofs.Demands.{by-numbers, demand-2}

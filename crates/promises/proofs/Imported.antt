@@ -2,7 +2,7 @@
 -- Assumes nothing.
 use mathlib.Core.Path.{_≡_, refl, sym, ap, subst, _∙_}
 use mathlib.Core.Logic.{_⊎_, inl, inr, ⊎-elim, _↔_}
-use mathlib.Core.List.{List, [], _∷_, map, List·Memᴰ, List·Memᴰ·head, List·Memᴰ·tail, List·Memᴰ·not-nil, List·Memᴰ·cases-cons}
+use mathlib.Core.List.{List, [], _∷_, map, List·Memᴰ·head, List·Memᴰ·tail, List·Memᴰ·not-nil, List·Memᴰ·cases-cons}
 use Prim.Native.Nat.{ℕ, zero, suc, _*_, _≤_, _<_}
 use native.Mathlib.Omega.{arith}
 use lib.ListN.{length, getD}
@@ -12,7 +12,7 @@ use Rattle.facts.specs.declared.Refusal.{Refusal}
 use Rattle.facts.specs.declared.Refusal.the-variants as refusals
 use Rattle.facts.specs.declared.Verdict.{Verdict}
 use Rattle.facts.specs.declared.Verdict.the-variants.{Sound, Faulty}
-use Rattle.facts.specs.Facts.{wellFormed, faultOf}
+use Rattle.facts.specs.Facts.{faultOf}
 use Rattle.facts.proofs.Facts.{fault-none}
 use Rattle.table.specs.Tables.{accepted, refused, ascending, TableFacts}
 use Rattle.table.proofs.Lists.{formed-in}
@@ -23,7 +23,8 @@ use Rattle.imports.specs.declared.Finding.{Finding}
 use Rattle.imports.specs.declared.Finding.the-variants.{Clear, Fault}
 use Rattle.imports.specs.Lines.{linesOf, Statement, said, statements}
 use Rattle.imports.specs.Import.{knownBy, factOf, factsOf, lineRefusal, factRefusal, firstOn, orElse, judgedBy, judged, importOf}
-use Rattle.imports.proofs.Imported.{both-clear, all-clear, sound-clear, FirstFault, says-first, judged-fault, facts-only, facts-ascend, stands-on, Refusing, large, fault, crowd, import-refused, import-accepted, import-large, import-fault, import-crowd, import-table}
+use Rattle.imports.proofs.Findings.{both-clear, all-clear, sound-clear, FirstFault, says-first, judged-fault}
+use Rattle.imports.proofs.Imported.{facts-only, facts-ascend, Refusing, large, fault, crowd, import-accepted, import-large, import-fault, import-crowd, import-table}
 use Rattle.imports.proofs.Sizes.{said-among}
 use Rattle.promises.specs.Import.{Reads, lineOn, FactsOf, Imported, LineRefused, FactRefused, FirstLine, ImportRefused, by-size, by-line, by-fact, by-crowd, by-room}
 use Rattle.promises.proofs.Lines.{not-faulty, line-refused, clear-reads, reads-said, reads-clear}

@@ -3,9 +3,8 @@
 use mathlib.Core.Path.{_≡_, refl, sym, ap, subst, _∙_}
 use mathlib.Core.Logic.{_↔_}
 use mathlib.Core.List.{List, [], _∷_, _++_}
-use Prim.Native.Nat.{ℕ, suc, _<_}
+use Prim.Native.Nat.{ℕ, suc}
 use native.Mathlib.Omega.{arith}
-use lib.ListN.{length, getD}
 use Rattle.facts.specs.declared.Refusal.{Refusal}
 use Rattle.facts.specs.declared.Refusal.the-variants as refusals
 use Rattle.facts.specs.declared.Verdict.{Verdict}
@@ -22,7 +21,7 @@ use Rattle.imports.specs.declared.Finding.{Finding}
 use Rattle.imports.specs.declared.Finding.the-variants.{Clear}
 use Rattle.imports.specs.Lines.{Statement, saidBy, said, statements}
 use Rattle.imports.specs.Import.{lineRefusal, foundOn, firstOn}
-use Rattle.imports.proofs.Imported.{found-clear}
+use Rattle.imports.proofs.Findings.{found-clear}
 use Rattle.promises.specs.Import.{Reads, end, silent, states, LineRefused, outside, unknown}
 
 -- what earns nothing earns no refusal

@@ -1,7 +1,7 @@
 -- `import_collect::collect` meets its contract. The loop's invariant: the statements passed are gathered, with room for a fact more.
 -- Assumes nothing.
 use mathlib.Core.Path.{sym, ap, subst}
-use Prim.Native.Nat.{_-_, _≤_}
+use Prim.Native.Nat.{_-_}
 use native.Mathlib.Omega.{arith}
 use lib.ListN.{length}
 use denote.Ref.{now}
