@@ -1,6 +1,8 @@
 // The facts of an input, gathered (document 02, Point 3).
 use fact_keys::add_key;
 use facts::Fact;
+use imports::CROWD;
+use imports::ENTRIES;
 use imports::Progress;
 use input_lines::line_end;
 use line_parser::parse;
@@ -16,9 +18,6 @@ ghost use Rattle.ntriples.specs.Tokens.{part};
 ghost use Rattle.numbering.specs.Index.{Here};
 ghost use Rattle.imports.specs.Lines.{linesOf, said, statements};
 ghost use Rattle.imports.specs.Collecting.{GivesTerm, Open, Stands, statementAt, Grows, begun, Collected};
-
-// More facts than a table holds.
-const CROWD: usize = 1025;
 
 // A token's number: the vocabulary's own, or that by its first appearance, and then the index has its entry.
 fn term(input: &[u8], from: usize, to: usize, items: &mut [u64], counts: Counts) -> Numbered
@@ -96,10 +95,10 @@ fn add_line(
 }
 
 // An index with no entry: three for each of 1,025 facts.
-fn no_items() -> [u64; 3075]
+fn no_items() -> [u64; ENTRIES]
     ensures { λ r. ⌜ r ≡ replicate 3075 0 ⌝ }
 {
-    [0u64; 3075]
+    [0u64; ENTRIES]
 }
 
 // Nothing gathered yet.

@@ -7,7 +7,10 @@ use imports::Finding;
 use input_lines::line_end;
 use line_parser::parse;
 use ntriples::Line;
+use ntriples::QUOTE;
 use ntriples::Span;
+use numbering::FIRST_LITERAL;
+use numbering::FIRST_NAME;
 use token_ends::byte_at;
 use vocabulary::vocabulary_of;
 ghost use mathlib.Core.Path.{_≡_};
@@ -17,12 +20,6 @@ ghost use Rattle.ntriples.specs.Lexed.{lineOf};
 ghost use Rattle.imports.specs.Lines.{linesOf, said};
 ghost use Rattle.imports.specs.Import.{factRefusal, foundOn, orElse, judged};
 ghost use Rattle.imports.specs.Samples.{sampleOf, sampleFact};
-
-const QUOTE: u8 = 34;
-
-const FIRST_NAME: u32 = 6;
-
-const FIRST_LITERAL: u32 = 40000;
 
 // The vocabulary's own number, or the first of the token's kind.
 fn sample(token: &[u8]) -> u32

@@ -4,6 +4,7 @@ use facts::Answer;
 use facts::Refusal;
 use import_collect::collect;
 use import_judge::judge;
+use imports::CROWD;
 use imports::Finding;
 use table::FIELDS;
 use table::PLACES;
@@ -19,10 +20,10 @@ ghost use Rattle.imports.specs.Collecting.{WritesKeys};
 const INPUT_MOST: usize = 65536;
 
 // Rows of keys and of numbers, with nothing in them yet.
-fn no_keys() -> [u64; 1025]
+fn no_keys() -> [u64; CROWD]
     ensures { λ r. ⌜ r ≡ replicate 1025 0 ⌝ }
 {
-    [0u64; 1025]
+    [0u64; CROWD]
 }
 
 fn no_row() -> [u32; ROW_NUMBERS]

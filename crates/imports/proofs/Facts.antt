@@ -61,7 +61,7 @@ all-whole ss s m =
     record {
       subject = after-numbered unknown (tokens ss) (s .subject) (t .0);
       predicate = after-numbered unknown (tokens ss) (s .predicate) (t .1);
-      object = after-numbered unknown (tokens ss) (s .object) (t .2)
+      object = after-numbered unknown (tokens ss) (s .object) (t .2);
     }
 
 -- later tokens change no fact

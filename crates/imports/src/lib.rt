@@ -2,6 +2,12 @@
 use facts::Refusal;
 use numbering::Counts;
 
+// More facts than a table holds.
+pub const CROWD: usize = 1025;
+
+// Three tokens for each of them.
+pub const ENTRIES: usize = 3075;
+
 // What the lines come to: nothing to refuse, or the first refusal, and the number of its line, counted from 1.
 pub enum Finding {
     Clear,

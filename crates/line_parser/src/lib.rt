@@ -1,7 +1,10 @@
 // A line of N-Triples, taken apart (document 02, Point 3).
 use ntriples::Class;
+use ntriples::HASH;
 use ntriples::Line;
+use ntriples::STOP;
 use ntriples::Span;
+use ntriples::UNDERSCORE;
 use token_ends::byte_at;
 use token_ends::iri_end;
 use token_ends::object_end;
@@ -9,12 +12,6 @@ use token_ends::run_end;
 use token_ends::subject_end;
 ghost use mathlib.Core.Path.{_≡_};
 ghost use Rattle.ntriples.specs.Lexed.{ends, stops, fromObject, fromPredicate, fromSubject, lineOf};
-
-const HASH: u8 = 35;
-
-const STOP: u8 = 46;
-
-const UNDERSCORE: u8 = 95;
 
 // The line ends at a place, or a comment does it.
 fn is_end(s: &[u8], at: usize) -> bool

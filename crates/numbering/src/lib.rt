@@ -1,5 +1,10 @@
 // Numbers for tokens, in the order of their first appearance (document 02, Point 3): types, definitions and laws.
 
+// The first number of a name, and of a literal.
+pub const FIRST_NAME: u32 = 6;
+
+pub const FIRST_LITERAL: u32 = 40000;
+
 // How many names and literals have a number.
 pub struct Counts {
     pub names: u32,

@@ -1,29 +1,19 @@
 // Where the tokens of a line of N-Triples end (document 02, Point 3).
+use ntriples::AT;
+use ntriples::CARET;
+use ntriples::CLOSE;
+use ntriples::COLON;
 use ntriples::Class;
+use ntriples::HYPHEN;
+use ntriples::LINE_END;
+use ntriples::OPEN;
+use ntriples::QUOTE;
+use ntriples::STOP;
+use ntriples::UNDERSCORE;
 ghost use mathlib.Core.Path.{_≡_};
 ghost use mathlib.Core.Bool.{cond};
 ghost use Rattle.ntriples.specs.Classes.{belongs};
 ghost use Rattle.ntriples.specs.Lexed.{byteAt, runEnd, iriEnd, tagEnd, suffixEnd, literalEnd, trimmed, blankEnd, subjectEnd, objectEnd};
-
-const LINE_END: u8 = 10;
-
-const QUOTE: u8 = 34;
-
-const HYPHEN: u8 = 45;
-
-const STOP: u8 = 46;
-
-const COLON: u8 = 58;
-
-const AT: u8 = 64;
-
-const CARET: u8 = 94;
-
-const UNDERSCORE: u8 = 95;
-
-const OPEN: u8 = 60;
-
-const CLOSE: u8 = 62;
 
 // The byte is of the class.
 fn is_of(c: Class, b: u8) -> bool

@@ -1,6 +1,9 @@
 // Numbers for tokens, in the order of their first appearance (document 02, Point 3).
 use insertion::insert;
+use ntriples::QUOTE;
 use numbering::Counts;
+use numbering::FIRST_LITERAL;
+use numbering::FIRST_NAME;
 use numbering::Found;
 use numbering::Numbered;
 ghost use mathlib.Core.Path.{_≡_};
@@ -16,13 +19,6 @@ const TO: u64 = 65536;
 const TO_MOST: u64 = 131072;
 
 const FROM: u64 = 8589934592;
-
-// The first number of a name, and of a literal.
-const FIRST_NAME: u32 = 6;
-
-const FIRST_LITERAL: u32 = 40000;
-
-const QUOTE: u8 = 34;
 
 // Of two equally long tokens, the first has the smaller byte where they differ last.
 fn is_smaller(a: &[u8], b: &[u8]) -> bool
