@@ -16,7 +16,7 @@ use Rattle.ntriples.specs.declared.Line.the-variants.{Outside, Unknown, 
 use Rattle.ntriples.specs.Classes.{belongs}
 use Rattle.ntriples.specs.Grammar.{or, Of, iri, literal, blank, white, rest, subject, object, Silent}
 use Rattle.ntriples.specs.Lexed.{byteAt, runEnd, ends, isBlank, lineOf}
-use Rattle.ntriples.specs.Outcomes.{NamesBlank, States, Strays, ReadAs, Outcomes}
+use Rattle.ntriples.specs.Outcomes.{NamesBlank, States, Foreign, ReadAs, Outcomes}
 use Rattle.ntriples.specs.Tokens.{Token, spanned}
 use Rattle.ntriples.proofs.Lexed.{inside, never}
 use Rattle.ntriples.proofs.Lines.{ends-not, line-nothing}
@@ -115,8 +115,8 @@ silent-nothing l h =
 
 -- ---- and neither of these
 
-outside-strays : (l : List ℕ) → lineOf l ≡ Outside → Strays l
-outside-strays l e =
+outside-foreign : (l : List ℕ) → lineOf l ≡ Outside → Foreign l
+outside-foreign l e =
     record {
       no-statement = λ s p o h. let (a, b, c, t) = told-found l s p o h in other (blanks l a c) a b c (sym (told-line t) ∙ e);
       not-silent = λ h. let f : Nothing ≡ Outside = sym (silent-nothing l h) ∙ e in let z : _≡_ {A = ℕ} 0 1 = cc in omega arith;
@@ -126,8 +126,8 @@ outside-strays l e =
     other true a b c f = let z : _≡_ {A = ℕ} 0 1 = cc in omega arith
     other false a b c f = let z : _≡_ {A = ℕ} 0 1 = cc in omega arith
 
-strays-outside : (l : List ℕ) → Strays l → lineOf l ≡ Outside
-strays-outside l h = go (lineOf l) refl
+foreign-outside : (l : List ℕ) → Foreign l → lineOf l ≡ Outside
+foreign-outside l h = go (lineOf l) refl
   where
     go : (v : Line) → lineOf l ≡ v → v ≡ Outside
     go Outside e = refl
@@ -142,5 +142,5 @@ outcomes l = record {
   triple = λ s p o. (read-states l s p o, states-read l s p o);
   unknown = (unknown-names l, names-unknown l);
   nothing = (nothing-silent l, silent-nothing l);
-  outside = (outside-strays l, strays-outside l);
+  outside = (outside-foreign l, foreign-outside l);
 }

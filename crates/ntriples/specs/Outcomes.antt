@@ -22,7 +22,7 @@ pub record States (l : List ℕ) (s p o : Token) : Type 0 where
   pub object : Of blank o → ⊥
 
 -- neither a statement nor a line that says nothing
-pub record Strays (l : List ℕ) : Type 0 where
+pub record Foreign (l : List ℕ) : Type 0 where
   pub no-statement : (s p o : Token) → Says l s p o → ⊥
   pub not-silent : Silent l → ⊥
 
@@ -41,4 +41,4 @@ pub record Outcomes (l : List ℕ) : Type 0 where
   pub triple : (s p o : Token) → ReadAs l s p o ↔ States l s p o
   pub unknown : lineOf l ≡ Unknown ↔ NamesBlank l
   pub nothing : lineOf l ≡ Nothing ↔ Silent l
-  pub outside : lineOf l ≡ Outside ↔ Strays l
+  pub outside : lineOf l ≡ Outside ↔ Foreign l

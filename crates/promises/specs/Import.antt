@@ -1,6 +1,6 @@
 -- Tables from the planning office (document 02, Point 3), a field for each sentence. They take of a call its equations alone (`ImportCall`, what
 -- the contract of `factbox_import` says), and speak of its result by the papers' numbers. What a line says is read off the grammar (`States`,
--- `NamesBlank`, `Silent`, `Strays`), and the statements of an input off its lines (`Reads`).
+-- `NamesBlank`, `Silent`, `Foreign`), and the statements of an input off its lines (`Reads`).
 -- Assumes nothing.
 use mathlib.Core.Path.{_≡_}
 use mathlib.Core.Logic.{_↔_, _⊎_}
@@ -19,7 +19,7 @@ use Rattle.table.specs.Tables.{TableFacts, ascending, rowOf, tableBytes}
 use Rattle.rules.specs.Graph.{_∈_}
 use Rattle.ntriples.specs.Tokens.{Token}
 use Rattle.ntriples.specs.Grammar.{Of, iri, literal, Silent}
-use Rattle.ntriples.specs.Outcomes.{States, NamesBlank, Strays, Outcomes}
+use Rattle.ntriples.specs.Outcomes.{States, NamesBlank, Foreign, Outcomes}
 use Rattle.numbering.specs.Numbering.{isLiteral}
 use Rattle.numbering.specs.Vocabulary.{sc, sp, dom, range, type, vocabulary, termOf}
 use Rattle.numbering.specs.Appearance.{isOther, Different}
@@ -62,7 +62,7 @@ pub record Imported (b : List ℕ) (fs : List Fact) : Type 0 where
 
 -- 13 for a line outside the subset, 14 for one that is in it but for a blank node
 pub data LineRefused (l : List ℕ) : Refusal → Type 0 where
-  outside : Strays l → LineRefused l refusals.Statement
+  outside : Foreign l → LineRefused l refusals.Statement
   unknown : NamesBlank l → LineRefused l refusals.UnknownNode
 
 -- the first of 5 and 12 that the fact of a line's statement earns
