@@ -13,7 +13,7 @@ const PREDICATE: u64 = 65536;
 const SUBJECT: u64 = 4294967296;
 
 // The key of a fact.
-pub fn key_of(f: Fact) -> u64
+fn key_of(f: Fact) -> u64
     requires { ⌜ Narrow f ⌝ }
     ensures { λ r. ⌜ r ≡ keyOf f ⌝ }
 {
