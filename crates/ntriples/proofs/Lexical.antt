@@ -49,6 +49,7 @@ lacks x (many g) = lacks x g
 abbrev Other : ℕ → ℕ → Type 0
 Other x b = x ≡ b → ⊥
 
+-- no token of the grammar has the byte
 absent : (x : ℕ) (g : Grammar) → T (lacks x g) → (t : List ℕ) → Of g t → Every (Other x) t
 unfolding lacks Of joined Each
 absent x nothing l t e = subst (Every (Other x)) (sym e) (every-nothing (Other x))
@@ -60,51 +61,32 @@ absent x (then g h) l t (u, v, e, a, b) =
 absent x (or g h) l t o = let k = and-yes (lacks x g) (lacks x h) l in ⊎-elim (absent x g (k .0) t) (absent x h (k .1) t) o
 absent x (many g) l t (us, e, a) = subst (Every (Other x)) (sym e) (every-joined (Other x) (Of g) (absent x g l) us a)
 
--- a line that makes a statement, and one that says nothing
-abbrev statement : Grammar
-statement = then white (then subject (then white (then iri (then white (then object (then white (then (byte 46) (then white rest))))))))
-
+-- a line that says nothing; one that makes a statement, from its object on, from its predicate on, and as a whole
 abbrev silence : Grammar
 silence = then white rest
 
+abbrev fromObject : Grammar
+fromObject = then object (then white (then (byte 46) silence))
+
+abbrev fromPredicate : Grammar
+fromPredicate = then iri (then white fromObject)
+
+abbrev statement : Grammar
+statement = then white (then subject (then white fromPredicate))
+
 says-statement : (l s p o : Token) → Says l s p o → Of statement l
 unfolding Of
-says-statement l s p o h = (
-  h .w0,
-  _,
-  h .line,
-  h .white0,
-  (
-    s,
-    _,
-    refl,
-    h .is-subject,
-    (
-      h .w1,
-      _,
-      refl,
-      h .white1,
-      (
-        p,
-        _,
-        refl,
-        h .is-predicate,
-        (
-          h .w2,
-          _,
-          refl,
-          h .white2,
-          (o, _, refl, h .is-object, (h .w3, _, refl, h .white3, (46 ∷ [], _, refl, refl, (h .w4, h .r, refl, h .white4, h .is-rest)))),
-        ),
-      ),
-    ),
-  ),
-)
+says-statement l s p o h =
+    let z : Of silence (h .w4 ++ h .r) = (h .w4, h .r, refl, h .white4, h .is-rest) in
+    let y : Of fromObject (o ++ (h .w3 ++ (46 ∷ (h .w4 ++ h .r)))) = (o, _, refl, h .is-object, (h .w3, _, refl, h .white3, (46 ∷ [], _, refl, refl, z))) in
+    let x : Of fromPredicate (p ++ (h .w2 ++ (o ++ (h .w3 ++ (46 ∷ (h .w4 ++ h .r)))))) = (p, _, refl, h .is-predicate, (h .w2, _, refl, h .white2, y)) in
+    (h .w0, _, h .line, h .white0, (s, _, refl, h .is-subject, (h .w1, _, refl, h .white1, x)))
 
 silent-silence : (l : List ℕ) → Silent l → Of silence l
 unfolding Of
 silent-silence l h = (h .w, h .r, h .line, h .is-white, h .is-rest)
 
+-- a line with a byte that no line of the grammar has
 foreign : (x : ℕ) → T (lacks x statement) → T (lacks x silence) → (l : List ℕ) → List·Memᴰ x l → Foreign l
 foreign x a b l m =
     record { no-statement = λ s p o h. absent x statement a l (says-statement l s p o h) x m refl; not-silent = λ h. absent x silence b l (silent-silence l h) x m refl }
