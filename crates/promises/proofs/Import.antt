@@ -23,6 +23,7 @@ use Rattle.rules.specs.Graph.{_∈_}
 use Rattle.ntriples.specs.Tokens.{Token}
 use Rattle.ntriples.specs.Grammar.{Of, iri, literal}
 use Rattle.ntriples.proofs.Outcomes.{outcomes}
+use Rattle.ntriples.proofs.Lexical.{lexical}
 use Rattle.ntriples.proofs.Tokens.{states-tokens, iri-first, literal-first}
 use Rattle.numbering.specs.Numbering.{has, isLiteral}
 use Rattle.numbering.specs.Vocabulary.{vocabulary, unknown, termOf, known}
@@ -163,6 +164,7 @@ import = record {
   lines = λ b ls. (parted-only b ls, λ e. subst (Parted b) (sym e) (parted b));
   line = outcomes;
   one-reading = one-reading;
+  lexical = lexical;
   fixed = λ ss. fixed (knownBy ss);
   iris = λ {ls} {ss} r. iris ss;
   literals = λ {ls} {ss} r. literals ss;

@@ -20,6 +20,7 @@ use Rattle.rules.specs.Graph.{_∈_}
 use Rattle.ntriples.specs.Tokens.{Token}
 use Rattle.ntriples.specs.Grammar.{Of, iri, literal, Silent}
 use Rattle.ntriples.specs.Outcomes.{States, NamesBlank, Foreign, Outcomes}
+use Rattle.ntriples.specs.Lexical.{Lexical}
 use Rattle.numbering.specs.Numbering.{isLiteral}
 use Rattle.numbering.specs.Vocabulary.{sc, sp, dom, range, type, vocabulary, termOf}
 use Rattle.numbering.specs.Appearance.{isOther, Different}
@@ -110,6 +111,9 @@ pub record Import : Type 1 where
   -- the executable reading of a line says what the grammar says, for all four outcomes; the statements of an input are one list
   pub line : (l : List ℕ) → Outcomes l
   pub one-reading : {ls : List (List ℕ)} {ss us : List Statement} → Reads ls ss → Reads ls us → ss ≡ us
+  -- "No escapes are accepted.", "byte 13 gets 13", "Relative IRIs pass, bytes above 127 pass unread inside IRIs, a literal's quotes, blank labels and
+  -- comments and nowhere else, and no space or tab stands between a literal's parts.": of the grammar, by the bytes alone
+  pub lexical : Lexical
   -- "The five IRIs of the vocabulary become 1 to 5."
   pub fixed : (ss : List Statement) → (numberIn ss sc ≡ 1) × (numberIn ss sp ≡ 2) × (numberIn ss dom ≡ 3) × (numberIn ss range ≡ 4) × (numberIn ss type ≡ 5)
   -- "Other IRIs get numbers from 6, and literals from 40000, in order of first appearance.": a token behind the tokens us, among which it is not,
