@@ -71,7 +71,7 @@ narrow k t n l h =
 
 -- any other gets its number by first appearance
 pub termed-other : (input : List ℕ) (from to : ℕ) (before after : List ℕ) (c : Counts) (r : Numbered) (k : Known) → Here input from to before c
-    → 0 ≡ wordOf (part input from to) → Entered input from to before after c r k → Termed input from to after c r k
+    → 0 ≡ wordOf (part input from to) → Entered input from to after c r k → Termed input from to after c r k
 termed-other input from to before after c r k h e m =
     let t = part input from to in
     by-cases (has t vocabulary)

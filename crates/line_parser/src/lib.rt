@@ -13,7 +13,7 @@ use token_ends::subject_end;
 ghost use mathlib.Core.Path.{_≡_};
 ghost use Rattle.ntriples.specs.Lexed.{ends, stops, fromObject, fromPredicate, fromSubject, lineOf};
 
-// The line ends at a place, or a comment does it.
+// From a place on nothing stands, or a comment.
 fn is_end(s: &[u8], at: usize) -> bool
     ensures { λ r. ⌜ r ≡ ends (now (s .entry)) at ⌝ }
 {

@@ -23,7 +23,7 @@ use Rattle.ordered.proofs.Inserted.{here, each, still, rises, inserted-length}
 use Rattle.numbering.proofs.Numbering.{known-kept, known-new, known-still, known-more, new-literal, new-name}
 
 pub entered-found : (input before : List ℕ) (from to : ℕ) (c : Counts) (v : ℕ) (k : Known) → Kept input before c k
-    → Held input before (entries c) (part input from to) v → Entered input from to before before c (record { number = v; counts = c }) k
+    → Held input before (entries c) (part input from to) v → Entered input from to before c (record { number = v; counts = c }) k
 entered-found input before from to c v k q h =
     let e : knows k (part input from to) ≡ true = rw (h .token) at (q .known (h .at) (h .within)) in
     let s : withToken k (part input from to) ≡ k = known-kept k (part input from to) e in
@@ -158,7 +158,7 @@ module _ (input before : List ℕ) (from to : ℕ) (c : Counts) (h : Here input 
           let b = still before (entries c) r v fits room (a .0) (a .1) in
           (b .0, b .1, ap (tokenOf input) (b .2) ∙ a .2)
 
-  pub entered-new : Entered input from to before (inserted before (entries c) r (entry from to (nextOf c (getD input from 0) .number))) c (nextOf c (getD input from 0)) k
+  pub entered-new : Entered input from to (inserted before (entries c) r (entry from to (nextOf c (getD input from 0) .number))) c (nextOf c (getD input from 0)) k
   unfolding t g v after
   entered-new =
       record {
@@ -179,6 +179,6 @@ pub next-most : (c : Counts) (b : ℕ) → entries c < 4096 → nextOf c b .numb
 unfolding nextOf
 next-most c b h = by-cases (eqb b 34) (λ p. rw p (omega arith)) (λ p. rw p (omega arith))
 
-pub entered-as : (input : List ℕ) (from to : ℕ) (before : List ℕ) (c : Counts) (k : Known) {r g : Numbered} {x y : List ℕ} → r ≡ g → x ≡ y
-    → Entered input from to before y c g k → Entered input from to before x c r k
-entered-as input from to before c k e f h = rw (e, f) h
+pub entered-as : (input : List ℕ) (from to : ℕ) (c : Counts) (k : Known) {r g : Numbered} {x y : List ℕ} → r ≡ g → x ≡ y
+    → Entered input from to y c g k → Entered input from to x c r k
+entered-as input from to c k e f h = rw (e, f) h

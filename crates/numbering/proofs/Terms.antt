@@ -145,7 +145,7 @@ term-kinds k t few less h =
 
 -- ---- no two tokens have one number
 
-number-least : (k : Known) (t : Token) → 6 ≤ numberIn k t
+pub number-least : (k : Known) (t : Token) → 6 ≤ numberIn k t
 unfolding numberIn
 number-least k t = by-cases (isLiteral t) (λ p. rw p (omega arith)) (λ p. rw p (omega arith))
 

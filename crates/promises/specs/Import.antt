@@ -42,8 +42,8 @@ abbrev pub lineOn : List ℕ → ℕ → List ℕ
 lineOn b i = getD (linesOf b) i []
 
 -- a token's number among those statements
-abbrev pub numberIn : List Statement → Token → ℕ
-numberIn ss t = termOf (knownBy ss) t
+abbrev pub termIn : List Statement → Token → ℕ
+termIn ss t = termOf (knownBy ss) t
 
 -- the facts are those of the statements under that numbering, and no others
 abbrev pub FactsOf : List Statement → List Fact → Type 0
@@ -98,6 +98,8 @@ pub record Import : Type 1 where
   -- with the written table's facts as count": the table is written into the front of the memory
   pub done : {b entry exit : List ℕ} {n : ℕ} {fs : List Fact} → ImportCall b entry exit n → Imported b fs → 16 * length fs ≤ length entry
       → DoneWith (unpacked n) (length fs) × (exit ≡ over (tableBytes fs) entry)
+  pub done-only : {b entry exit : List ℕ} {n : ℕ} → ImportCall b entry exit n → (c : ℕ) → DoneWith (unpacked n) c
+      → (fs : List Fact) × Imported b fs × (c ≡ length fs) × (exit ≡ over (tableBytes fs) entry)
   -- no answer names a term
   pub unnamed : {b entry exit : List ℕ} {n : ℕ} → ImportCall b entry exit n → unpacked n .filling ≡ 0
   -- an input that gets no refusal is imported, as one table
@@ -115,14 +117,18 @@ pub record Import : Type 1 where
   -- comments and nowhere else, and no space or tab stands between a literal's parts.": of the grammar, by the bytes alone
   pub lexical : Lexical
   -- "The five IRIs of the vocabulary become 1 to 5."
-  pub fixed : (ss : List Statement) → (numberIn ss sc ≡ 1) × (numberIn ss sp ≡ 2) × (numberIn ss dom ≡ 3) × (numberIn ss range ≡ 4) × (numberIn ss type ≡ 5)
+  pub fixed : (ss : List Statement) → (termIn ss sc ≡ 1) × (termIn ss sp ≡ 2) × (termIn ss dom ≡ 3) × (termIn ss range ≡ 4) × (termIn ss type ≡ 5)
+  pub exactly : (ss : List Statement) (t : Token) → (t ∈ vocabulary) ↔ (termIn ss t < 6)
   -- "Other IRIs get numbers from 6, and literals from 40000, in order of first appearance.": a token behind the tokens us, among which it is not,
   -- gets 6 (40000) and how many different ones of its kind are among them
   pub iris : {ls : List (List ℕ)} {ss : List Statement} → Reads ls ss → (us : List Token) (t : Token) (vs : List Token) → tokens ss ≡ us ++ (t ∷ vs) → (t ∈ us → ⊥)
-      → Of iri t → (t ∈ vocabulary → ⊥) → (ds : List Token) × Different isOther us ds × (numberIn ss t ≡ 6 + length ds)
+      → Of iri t → (t ∈ vocabulary → ⊥) → (ds : List Token) × Different isOther us ds × (termIn ss t ≡ 6 + length ds)
   pub literals : {ls : List (List ℕ)} {ss : List Statement} → Reads ls ss → (us : List Token) (t : Token) (vs : List Token) → tokens ss ≡ us ++ (t ∷ vs) → (t ∈ us → ⊥)
-      → Of literal t → (ds : List Token) × Different isLiteral us ds × (numberIn ss t ≡ 40000 + length ds)
+      → Of literal t → (ds : List Token) × Different isLiteral us ds × (termIn ss t ≡ 40000 + length ds)
   -- whose kinds are those of the grammar
   pub kinds : {ls : List (List ℕ)} {ss : List Statement} → Reads ls ss → (t : Token) → t ∈ tokens ss → (Of iri t × (isLiteral t ≡ false)) ⊎ (Of literal t × (isLiteral t ≡ true))
+  -- and there are numbers enough of each kind
+  pub of-kind : (b : List ℕ) {ss : List Statement} → length b ≤ 65536 → Reads (linesOf b) ss → (t : Token) → t ∈ tokens ss
+      → (Of iri t → (t ∈ vocabulary → ⊥) → (6 ≤ termIn ss t) × (termIn ss t < 40000)) × (Of literal t → (40000 ≤ termIn ss t) × (termIn ss t < 50000))
   -- "and never give two tokens one number."
-  pub never-two : (b : List ℕ) {ss : List Statement} → length b ≤ 65536 → Reads (linesOf b) ss → (s t : Token) → s ∈ tokens ss → t ∈ tokens ss → numberIn ss s ≡ numberIn ss t → s ≡ t
+  pub never-two : (b : List ℕ) {ss : List Statement} → length b ≤ 65536 → Reads (linesOf b) ss → (s t : Token) → s ∈ tokens ss → t ∈ tokens ss → termIn ss s ≡ termIn ss t → s ≡ t

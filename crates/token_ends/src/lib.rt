@@ -117,7 +117,7 @@ fn tag_end(s: &[u8], at: usize) -> usize
     ended(fresh, i)
 }
 
-// Where a literal ends whose closing quote stands before a place, or 0.
+// Where a literal ends whose closing quote stands before a place, or 0 where @ or ^ comes next and no tag or datatype does.
 fn suffix_end(s: &[u8], at: usize) -> usize
     ensures { λ r. ⌜ r ≡ suffixEnd (now (s .entry)) at ⌝ }
 {

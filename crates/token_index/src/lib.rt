@@ -13,12 +13,12 @@ ghost use lib.Dec.{ltb};
 ghost use Rattle.numbering.specs.Weights.{weight};
 ghost use Rattle.numbering.specs.Index.{entry, tokenOf, Whole, Ordered, Cut, Sought, entries, nextOf, Here, Enters};
 
-// An entry of the index: where a token stands in the input, and its number, packed into one number.
-const TO: u64 = 65536;
+// An entry of the index in one number: bits 0 to 15 the token's number, 16 to 32 where it ends in the input, 33 on where it begins.
+const END: u64 = 65536;
 
-const TO_MOST: u64 = 131072;
+const END_RANGE: u64 = 131072;
 
-const FROM: u64 = 8589934592;
+const BEGIN: u64 = 8589934592;
 
 // Of two equally long tokens, the first has the smaller byte where they differ last.
 fn is_smaller(a: &[u8], b: &[u8]) -> bool
@@ -53,8 +53,8 @@ fn entry_before(input: &[u8], v: u64, token: &[u8]) -> bool
     requires { ⌜ Whole (now input) v ⌝ }
     ensures { λ r. ⌜ r ≡ ltb (weight (tokenOf (now (input .entry)) v)) (weight (now (token .entry))) ⌝ }
 {
-    let from = (v / FROM) as usize;
-    let to = (v / TO % TO_MOST) as usize;
+    let from = (v / BEGIN) as usize;
+    let to = (v / END % END_RANGE) as usize;
     comes_before(&input[from..to], token)
 }
 
@@ -63,8 +63,8 @@ fn entry_behind(input: &[u8], v: u64, token: &[u8]) -> bool
     requires { ⌜ Whole (now input) v ⌝ }
     ensures { λ r. ⌜ r ≡ ltb (weight (now (token .entry))) (weight (tokenOf (now (input .entry)) v)) ⌝ }
 {
-    let from = (v / FROM) as usize;
-    let to = (v / TO % TO_MOST) as usize;
+    let from = (v / BEGIN) as usize;
+    let to = (v / END % END_RANGE) as usize;
     comes_before(token, &input[from..to])
 }
 
@@ -99,7 +99,7 @@ fn find(input: &[u8], items: &[u64], n: usize, token: &[u8]) -> Found
     if entry_behind(input, v, token) {
         return Found::Place(k);
     }
-    Found::Number((v % TO) as u32)
+    Found::Number((v % END) as u32)
 }
 
 // The number that comes next, by the first byte of the token that gets it.
@@ -134,7 +134,7 @@ fn pack(from: usize, to: usize, number: u32) -> u64
     requires { ⌜ (from ≤ 65536) × (to ≤ 65536) × (number < 65536) ⌝ }
     ensures { λ r. ⌜ r ≡ entry from to number ⌝ }
 {
-    (from as u64 * TO_MOST + to as u64) * TO + number as u64
+    (from as u64 * END_RANGE + to as u64) * END + number as u64
 }
 
 // The number of the token that stands at a place of the input: the one that it has, or else the next, and then the index has its entry.

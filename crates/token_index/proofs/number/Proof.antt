@@ -93,7 +93,7 @@ returns-2 c k q =
     let n : g .result ≡ nextOf counts (getD input from 0) = g .ensures in
     let v : p .result ≡ entry from to (nextOf counts (getD input from 0) .number) = p .ensures ∙ ap (λ (x : Numbered). entry from to (x .number)) n in
     let a : i .last .0 ≡ inserted before (entries counts) r (entry from to (nextOf counts (getD input from 0) .number)) = i .ensures ∙ ap (inserted before (entries counts) r) v in
-    entered-as input from to before counts k n a (entered-new input before from to counts (s .pre) r (missing f) k q)
+    entered-as input from to counts k n a (entered-new input before from to counts (s .pre) r (missing f) k q)
 
 pub number-spec : {M : Type 1} → statement M
 number-spec =
