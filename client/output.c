@@ -1,5 +1,6 @@
 /* What a program has made, written out: see output.h. */
 #include "output.h"
+#include "shown.h"
 #include "words.h"
 
 #include <errno.h>
@@ -150,7 +151,7 @@ static void write_all(const output *outputs, size_t count, int files) {
 /* Puts the old file back, or takes the new one away where there was none. If that fails, says where the old one is, and keeps it. */
 static void put_back(place *p) {
     if ((p->there ? rename(p->held, p->name) : remove(p->name)) == 0) return;
-    if (p->there) fprintf(stderr, "%s: the old file can't be put back, it is %s\n", PROGRAM, p->held);
+    if (p->there) fprintf(stderr, "%s: the old file can't be put back, it is %s\n", PROGRAM, shown_file(p->held));
     *p->held = '\0';
 }
 
