@@ -1,7 +1,7 @@
 /* An import that goes wrong, for the tests: the box's own, and then a change to its table. The variable WRONG says which: `object` puts
  * another object in the first fact, `fewer` leaves out the last fact, `more` adds one, `torn` spoils a column, `numbers` exchanges the
  * numbers 6 and 7. Or a call on files goes wrong: `rename` lets the second renaming fail, `renames` all but the first,
- * `link` every link and the third renaming, `access` every question whether a file may be written. */
+ * `link` every link and the third renaming, `place` every link and the second, `access` every question whether a file may be written. */
 #include "factbox.h"
 
 #include <errno.h>
@@ -55,10 +55,10 @@ static int failed(void) {
 int wrong_rename(const char *from, const char *to) {
     static int calls;
     calls++;
-    if ((calls == 2 && is_wrong("rename")) || (calls >= 2 && is_wrong("renames"))) return failed();
+    if ((calls == 2 && (is_wrong("rename") || is_wrong("place"))) || (calls >= 2 && is_wrong("renames"))) return failed();
     return calls == 3 && is_wrong("link") ? failed() : rename(from, to);
 }
 
-int wrong_link(const char *from, const char *to) { return is_wrong("link") ? failed() : link(from, to); }
+int wrong_link(const char *from, const char *to) { return is_wrong("link") || is_wrong("place") ? failed() : link(from, to); }
 
 int wrong_access(const char *name, int how) { return is_wrong("access") ? failed() : access(name, how); }
