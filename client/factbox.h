@@ -66,6 +66,9 @@
  *   predicate    an IRI in < >
  *   object       an IRI in < >, or a literal: text in " ", behind it perhaps a language tag, as @en, or a datatype, as ^^<IRI>
  *
+ * A language tag is @ and letters, then perhaps parts of letters and digits, each behind a hyphen: "x"@en, "x"@en-GB and "x"@en-1
+ * pass; "x"@e1, "x"@1 and "x"@en- get 13. Letters are a to z and A to Z.
+ *
  * Spaces and tabs, also none, may stand before, between and behind these and the full stop, but not inside a literal's parts
  * or between them. An IRI has no byte up to 32 and none of < > " { } | ^ ` \; it may be relative or empty. A literal's text has
  * any bytes but " \ 10 and 13, a comment any but 10 and 13. So there are no escapes, and byte 13 stands nowhere. Bytes above 127

@@ -5,6 +5,7 @@
 #include "fault.h"
 #include "factbox.h"
 #include "lines.h"
+#include "shown.h"
 #include "words.h"
 
 #include <string.h>
@@ -127,7 +128,7 @@ static void explain_mending(FILE *out, const char *name, const line *r) {
     if (len > 0 && line_fields(r->text + mark, len, 3, fact)) return;
     if (len > 0) refusal = fact_refusal(fact);
     if (refusal) explain_fact(out, refusal, fact, "");
-    fprintf(out, "  %s`table` takes such lines: table -o NEW %s\n", refusal ? "with that put right, " : "", name);
+    fprintf(out, "  %s`table` takes such lines: table -o NEW %s\n", refusal ? "with that put right, " : "", shown_file(name));
 }
 
 static void show_line(FILE *out, const line *r) { fprintf(out, "  line %-5u %s\n", r->number, quoted(r->text, r->len)); }
@@ -164,7 +165,7 @@ static void explain_order(FILE *out, const char *name, const line *before, const
     else
         fprintf(out, "  below line %u: its %s is %u, that of line %u is %u\n", before->number, FIELD_NAMES[i],
                 (unsigned)fact[i], before->number, (unsigned)above[i]);
-    fprintf(out, "  `table` sorts lines and drops repeats: table -o NEW %s\n", name);
+    fprintf(out, "  `table` sorts lines and drops repeats: table -o NEW %s\n", shown_file(name));
 }
 
 void explain_table(FILE *out, const char *name, const uint8_t *table, size_t len, uint64_t result) {
@@ -173,7 +174,7 @@ void explain_table(FILE *out, const char *name, const uint8_t *table, size_t len
     line r, before;
     if (number == FACTBOX_SIZE) r = first_odd_line(table, len);
     else r = line_at(table, len, (size_t)FACTBOX_TABLE_LINE * (place - 1), place);
-    fprintf(out, "%s:%u: %u %s\n", name, r.number, number, refusal_words(number));
+    fprintf(out, "%s:%u: %u %s\n", shown_file(name), r.number, number, refusal_words(number));
     if (number == FACTBOX_ORDER) {
         before = line_at(table, len, (size_t)FACTBOX_TABLE_LINE * (place - 2), place - 1);
         show_line(out, &before);

@@ -60,12 +60,13 @@ static int go_on(line *l) {
 /* Shows a line, of a long one the part around a place. */
 static void show_line(const line *l, size_t place) {
     enum { SHOWN = 120 };
-    static char out[4 * SHOWN + 1];
+    static char out[4 * (SHOWN + 4) + 1];
     size_t from = l->len <= SHOWN || place < SHOWN / 2 ? 0 : place - SHOWN / 2;
     if (l->len > SHOWN && from > l->len - SHOWN) from = l->len - SHOWN;
-    size_t shown = l->len - from < SHOWN ? l->len - from : SHOWN;
-    put_shown(out, l->text + from, shown);
-    fprintf(stderr, "  line %-5u %s%s%s\n", l->number, from > 0 ? ".." : "", out, from + shown < l->len ? ".." : "");
+    size_t to = l->len - from < SHOWN ? l->len : character_place(l->text, l->len, from + SHOWN);
+    from = character_place(l->text, l->len, from);
+    put_shown(out, l->text + from, to - from);
+    fprintf(stderr, "  line %-5u %s%s%s\n", l->number, from > 0 ? ".." : "", out, to < l->len ? ".." : "");
 }
 
 /* A place in the line as a column: characters, from 1. */
@@ -79,7 +80,7 @@ static size_t column(const line *l, size_t place) {
 static const char *token_words(token t) {
     enum { SHOWN = 60 };
     static char out[4 * SHOWN + 8];
-    char *end = put_shown(out, t.text, t.len < SHOWN ? t.len : SHOWN);
+    char *end = put_shown(out, t.text, t.len <= SHOWN ? t.len : character_place(t.text, t.len, SHOWN));
     strcpy(end, t.len > SHOWN ? ".." : "");
     return out;
 }
@@ -107,7 +108,7 @@ static const char *part_fault(const statement *s, size_t part) {
 static void complain(const line *l, const statement *s, unsigned number) {
     const char *why;
     int agreed = s->refusal == number, torn = agreed && number == FACTBOX_STATEMENT;
-    fprintf(stderr, "%s:%u: %u %s\n", text_name, l->number, number, refusal_words(number));
+    fprintf(stderr, "%s:%u: %u %s\n", shown_file(text_name), l->number, number, refusal_words(number));
     show_line(l, torn ? s->at : 0);
     if (torn) fprintf(stderr, "  column %zu: %s\n", column(l, s->at), s->why);
     for (size_t part = 0; agreed && s->said && part < 3; part++)
@@ -120,14 +121,13 @@ static int is_of_form(unsigned refusal) { return refusal == FACTBOX_STATEMENT ||
 /* Names the line that the box refused, and those below it that it would refuse next. */
 static int refuse_lines(uint64_t result) {
     unsigned faults = 0, number = factbox_number(result), first = factbox_place(result);
-    for (line l = {.number = 0}; faults < FAULTS_SHOWN && go_on(&l);) {
+    for (line l = {.number = 0}; faults <= FAULTS_SHOWN && go_on(&l);) {
         statement s = read_statement(l.text, l.len);
         int next = s.refusal && is_of_form(s.refusal) == is_of_form(number);
         if (l.number < first || (l.number > first && !next)) continue;
-        complain(&l, &s, l.number == first ? number : s.refusal);
-        faults++;
+        if (++faults <= FAULTS_SHOWN) complain(&l, &s, l.number == first ? number : s.refusal);
     }
-    if (faults == FAULTS_SHOWN) fprintf(stderr, "import: %d lines can't be taken, the rest was not read\n", FAULTS_SHOWN);
+    if (faults > FAULTS_SHOWN) fprintf(stderr, "import: more than %d lines can't be taken, the first are named\n", FAULTS_SHOWN);
     return 1;
 }
 
@@ -163,7 +163,7 @@ static size_t read_all(void) {
 static int refuse(uint64_t result) {
     unsigned number = factbox_number(result);
     if (factbox_place(result) > 0) return refuse_lines(result);
-    fprintf(stderr, "%s: %u %s\n", text_name, number, refusal_words(number));
+    fprintf(stderr, "%s: %u %s\n", shown_file(text_name), number, text_refusal(number));
     if (number == FACTBOX_STATEMENT) fprintf(stderr, "  the text has more than 65,536 bytes\n");
     else fprintf(stderr, "  the text has %zu different statements\n", sort(said, read_all()));
     return 1;

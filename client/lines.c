@@ -2,6 +2,7 @@
 #include "lines.h"
 #include "factbox.h"
 #include "names.h"
+#include "triples.h"
 #include "words.h"
 
 #include <errno.h>
@@ -28,9 +29,22 @@ lines open_lines(const char *name) {
 
 size_t mark_length(const char *text, size_t len) { return len >= 3 && memcmp(text, "\xef\xbb\xbf", 3) == 0 ? 3 : 0; }
 
+/* Where the field that begins here ends: at what parts fields, or for a whole IRI or literal behind it. */
+static size_t field_end(const char *text, size_t len, size_t at) {
+    size_t token = token_length(text + at, len - at), end = at + (token > 0 ? token : 1);
+    while (end < len && !is_separator(text[end]) && text[end] != '#') end++;
+    return end;
+}
+
+/* Where the comment begins; the length if there is none. */
+static size_t comment_place(const char *text, size_t len) {
+    size_t at = 0;
+    while (at < len && text[at] != '#') at = is_separator(text[at]) ? at + 1 : field_end(text, len, at);
+    return at;
+}
+
 size_t trimmed(const char *text, size_t len) {
-    const char *comment = memchr(text, '#', len);
-    if (comment) len = (size_t)(comment - text);
+    len = comment_place(text, len);
     while (len > 0 && (is_separator(text[len - 1]) || text[len - 1] == '\r')) len--;
     return len;
 }
@@ -57,7 +71,7 @@ int next_line(lines *in) {
         size_t kept = in->len < TEXT_MAX ? in->len : TEXT_MAX;
         size_t mark = in->line == 1 ? mark_length(in->text, kept) : 0;
         memmove(in->text, in->text + mark, kept - mark);
-        if (in->len <= TEXT_MAX || memchr(in->text, '#', kept - mark)) in->len = trimmed(in->text, kept - mark);
+        if (in->len <= TEXT_MAX || comment_place(in->text, kept - mark) < kept - mark) in->len = trimmed(in->text, kept - mark);
     } while (in->len == 0);
     return 1;
 }
@@ -126,9 +140,8 @@ const char *line_fields(const char *text, size_t len, size_t count, uint32_t *fi
     if (layout_fields(text, len, count, fields)) return NULL;
     size_t found = 0;
     for (size_t at = 0, end; at < len; at = end) {
-        end = at + 1;
+        end = is_separator(text[at]) ? at + 1 : field_end(text, len, at);
         if (is_separator(text[at])) continue;
-        while (end < len && !is_separator(text[end])) end++;
         const char *why = found < count ? field_value(text + at, end - at, found, count, &fields[found]) : NULL;
         if (why) return why;
         found++;

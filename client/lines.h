@@ -1,11 +1,11 @@
 /* Lines that a person writes, read from a file.
  *
  * A line has fields: numbers, or names where they are known (names.h), or in the predicate's place one of the words subclass,
- * subproperty, domain, range, type.
+ * subproperty, domain, range, type, or subClassOf, subPropertyOf.
  * A question's triple may have `?` for a gap. Between the fields stand spaces, tabs, commas or semicolons. A line as the box
  * lays it out, in fields of five columns that may touch, is read as well, also with `?` at the right of its columns. `#`
- * begins a comment. Blank lines, a carriage return before the line end, and a byte order mark before the first line are
- * passed over. */
+ * begins a comment. A whole IRI in < > or literal in quotes is one field, whatever stands in it. Blank lines, a carriage return
+ * before the line end, and a byte order mark before the first line are passed over. */
 #ifndef LINES_H
 #define LINES_H
 

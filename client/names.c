@@ -148,9 +148,10 @@ static void show_token(char *out, token t, uint32_t number) {
         put_shown(out, t.text, t.len);
         return;
     }
-    const char *from = literal ? t.text : t.text + t.len - PART_SHOWN;
+    size_t from = literal ? 0 : character_place(t.text, t.len, t.len - PART_SHOWN);
+    size_t to = literal ? character_place(t.text, t.len, PART_SHOWN) : t.len;
     out += sprintf(out, "%s", literal ? "" : "<..");
-    out = put_shown(out, from, PART_SHOWN);
+    out = put_shown(out, t.text + from, to - from);
     sprintf(out, "%s (%" PRIu32 ")", literal ? "..\"" : "", number);
 }
 
@@ -174,8 +175,9 @@ static int is_shown_so(uint32_t number, token text) {
 }
 
 uint32_t name_number(const char *text, size_t len) {
+    token t = {text, len};
     for (size_t kind = 0; kind < 2; kind++)
         for (uint32_t i = 0; i < counts[kind]; i++)
-            if (is_shown_so(FIRST[kind] + i, (token){text, len})) return FIRST[kind] + i;
-    return 0;
+            if (compare_tokens(tokens[kind][i], t) == 0 || is_shown_so(FIRST[kind] + i, t)) return FIRST[kind] + i;
+    return has_names() ? vocabulary_number(t) : 0;
 }

@@ -33,7 +33,7 @@ const char *read_names(const char *file, size_t len, const uint8_t *table, size_
  * question may have it; else the token, of a long one a part and the number. NULL if the number has none. Holds for four calls. */
 const char *shown_name(uint32_t number);
 
-/* The number whose name is shown so; 0 if there is none. */
+/* The number whose name is shown so, or whose whole token it is, with its < > or quotes; 0 if there is none. */
 uint32_t name_number(const char *text, size_t len);
 
 /* Whether there are names. */

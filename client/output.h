@@ -11,12 +11,16 @@ typedef struct {
     size_t len;
 } output;
 
-/* Writes them, to standard output, a file, or what else there is of that name, as a device. Files are written beside the old ones,
- * as NAME.new, and put in their places when all that is to be written is. If a write fails the program ends with status 2,
- * nothing is left beside, and the old files are as they were. */
+/* How many can be written at once. */
+enum { OUTPUTS_MAX = 2 };
+
+/* Writes them, to standard output, a file, or what else there is of that name, as a device. Files are written in a directory beside
+ * the old ones, of a name that no file has (.PROGRAM.XXXXXX), and put in their places when all that is to be written is; a link is
+ * followed, and an old file's mode is kept. If a file can't be written or may not be, the program ends with status 2, nothing is left
+ * beside, and the old files are as they were; if one can't even be put back, standard error says where it is kept. */
 void put_out(const output *outputs, size_t count);
 
-/* Whether two names are of one file. */
+/* Whether two names are of one file, be it there or not. */
 int is_same_file(const char *a, const char *b);
 
 #endif

@@ -10,8 +10,8 @@
  * predicate may be a word, and `?` (or 60000 to 65535) as subject or object asks for a term that may stand there. One that
  * is refused is shown with file and line; one that can't be read is named with them on standard error. The next are answered.
  *
- * With NAMES, which `import` makes with a table, names stand in place of numbers, and a question may have a name as it is shown, if
- * no space, comma, semicolon or # stands in it.
+ * With NAMES, which `import` makes with a table, names stand in place of numbers, and a question may have a name as it is shown, or the
+ * whole token as NAMES has it.
  *
  * Exit status: 0 all was answered; 1 the table, the names, a question or the derivation was refused; 2 bad usage, a question that
  * can't be read, a file that can't be read, a failed write, or a derivation of the box that its own check does not accept.
@@ -68,7 +68,7 @@ static int refuse_question(unsigned number, const uint32_t *question, const line
     const char *why;
     answer("REFUSED", RED, question_words(question));
     printf("%u %s\n", number, question_refusal(number));
-    for (size_t part = 0; (why = question_fault(number, question, &part));) printf("  %s:%u: %s\n", at->name, at->line, why);
+    for (size_t part = 0; (why = question_fault(number, question, &part));) printf("  %s:%u: %s\n", shown_file(at->name), at->line, why);
     return REFUSED;
 }
 
@@ -183,7 +183,7 @@ static int ask_all(lines questions) {
         uint32_t question[4];
         const char *wrong = line_fields(questions.text, questions.len, 4, question);
         int found = wrong ? FAILED : ask(question, &questions);
-        if (wrong) fprintf(stderr, "%s:%u: %s\n", questions.name, questions.line, wrong);
+        if (wrong) fprintf(stderr, "%s:%u: %s\n", shown_file(questions.name), questions.line, wrong);
         if (found > status) status = found;
         flush();
     }
@@ -225,7 +225,7 @@ static int try_table(const char *name) {
         return REFUSED;
     }
     headline("SOUND", GREEN);
-    printf("%s: %u fact%s\n", name, factbox_count(result), plural(factbox_count(result)));
+    printf("%s: %u fact%s\n", shown_file(name), factbox_count(result), plural(factbox_count(result)));
     return ANSWERED;
 }
 
@@ -237,7 +237,7 @@ static int try_names(const char *name) {
     const char *wrong = read_names(names, len, table, table_len, &line);
     if (!wrong) return ANSWERED;
     headline("REFUSED", RED);
-    printf("%s", name);
+    printf("%s", shown_file(name));
     if (line > 0) printf(":%u", line);
     printf(": %s\n", wrong);
     return REFUSED;

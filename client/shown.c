@@ -38,6 +38,12 @@ size_t character_length(const char *text, size_t len) {
     return c >= least[n] && is_seen(c) ? n : 0;
 }
 
+size_t character_place(const char *text, size_t len, size_t at) {
+    for (size_t back = 1; back < 4 && back <= at; back++)
+        if (character_length(text + at - back, len - at + back) > back) return at - back;
+    return at;
+}
+
 char *put_shown(char *out, const char *text, size_t len) {
     for (size_t at = 0, n; at < len; at += n > 0 ? n : 1) {
         n = character_length(text + at, len - at);
@@ -46,6 +52,14 @@ char *put_shown(char *out, const char *text, size_t len) {
         if (n == 0) out += sprintf(out, "\\x%02x", (unsigned char)text[at]);
     }
     *out = '\0';
+    return out;
+}
+
+const char *shown_file(const char *name) {
+    enum { SHOWN = 4096 };
+    static char out[4 * SHOWN + 1];
+    size_t len = strlen(name);
+    put_shown(out, name, len < SHOWN ? len : SHOWN);
     return out;
 }
 

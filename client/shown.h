@@ -12,6 +12,12 @@ size_t character_length(const char *text, size_t len);
  * end. Gives the end, where byte 0 stands. */
 char *put_shown(char *out, const char *text, size_t len);
 
+/* The last place up to this one that is not inside such a character: there a text can be cut. */
+size_t character_place(const char *text, size_t len, size_t at);
+
+/* A file's name, put so. The text holds until the next call. */
+const char *shown_file(const char *name);
+
 /* How many columns a text takes that was put so: its characters. */
 size_t columns(const char *text);
 

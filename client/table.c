@@ -13,6 +13,7 @@
 #include "fault.h"
 #include "lines.h"
 #include "output.h"
+#include "shown.h"
 #include "words.h"
 
 #include <stdlib.h>
@@ -37,24 +38,24 @@ static size_t count, repeats, faults;
 /* The result, ready to be written out; a line in words has 24 bytes. */
 static uint8_t result[24 * FACTBOX_FACTS_MAX + 1];
 
-/* Counts a line that can't be taken. After many, the rest is not read. */
+/* Counts a line that can't be taken, before it is named. After many, no more are, and the rest is not read. */
 static void count_fault(void) {
-    if (++faults < FAULTS_SHOWN) return;
-    fprintf(stderr, "table: %d lines can't be taken, the rest was not read\n", FAULTS_SHOWN);
+    if (++faults <= FAULTS_SHOWN) return;
+    fprintf(stderr, "table: more than %d lines can't be taken, the first are named\n", FAULTS_SHOWN);
     exit(1);
 }
 
 /* Says what is wrong with a line. */
 static void complain(const char *name, unsigned line, const char *what) {
-    fprintf(stderr, "%s:%u: %s\n", name, line, what);
     count_fault();
+    fprintf(stderr, "%s:%u: %s\n", shown_file(name), line, what);
 }
 
 /* Says that the box refuses a fact, where it was read, and which of its fields earn that. */
 static void complain_refused(const entry *e, unsigned number) {
-    fprintf(stderr, "%s:%u: %u %s\n", e->name, e->line, number, refusal_words(number));
-    explain_fact(stderr, number, e->fact, "");
     count_fault();
+    fprintf(stderr, "%s:%u: %u %s\n", shown_file(e->name), e->line, number, refusal_words(number));
+    explain_fact(stderr, number, e->fact, "");
 }
 
 static int compare(const uint32_t *a, const uint32_t *b) {

@@ -34,6 +34,9 @@ expect() {
     diff "$expected" "$work/all" || stop "$*: writes something else than $expected"
 }
 
+# nothing_beside: no program has left anything beside the files in $work
+nothing_beside() { [ -z "$(find "$work" -name '.[a-z]*.??????*')" ]; }
+
 # says FILE TEXT: one line of it has exactly this text, spaces before it apart
 says() {
     sed 's/^ *//' "$1" | grep -Fxq -- "$2" || { cat "$1"; stop "does not say: $2"; }

@@ -16,7 +16,7 @@ enum { VOCABULARY_LAST = 5 };
 
 static const char ESCAPE[] = "a backslash: no escapes are taken, so put the character itself";
 static const char BLANK_NODE[] = "a blank node is _: and a label of letters, digits, _ - . or :";
-static const char TAG[] = "a language tag is @ and letters, as @en or @en-GB";
+static const char TAG[] = "a language tag is @ and letters, as @en, then perhaps parts of letters and digits behind hyphens, as @en-GB or @de-1996";
 static const char DATATYPE[] = "a datatype is ^^ and an IRI in < >";
 
 /* A line, how far it is read, and what is found. */
@@ -81,7 +81,7 @@ static int read_tag(reader *r) {
         if (r->at == from) return breaks(r, from, TAG);
         first = 0;
     } while (next(r) == '-');
-    return 1;
+    return is_digit(next(r)) || next(r) == '_' || is_high(next(r)) ? breaks(r, r->at, TAG) : 1;
 }
 
 static int read_datatype(reader *r) {

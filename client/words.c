@@ -15,6 +15,9 @@ enum { VOCABULARY_LAST = 5, LITERAL_FIRST = 40000, BLANK_FIRST = FACTBOX_GAP, TE
 
 static const char *const VOCABULARY[] = {"", "subclass", "subproperty", "domain", "range", "type"};
 
+/* The same as the planning office writes them. */
+static const char *const OFFICE_WORDS[] = {"", "subClassOf", "subPropertyOf", "domain", "range", "type"};
+
 /* The same as verbs, before an object and before a gap. */
 static const char *const VERBS[] = {"", "is a subclass of", "is a subproperty of", "has domain", "has range", "is of type"};
 static const char *const GAP_VERBS[] = {
@@ -37,7 +40,7 @@ static const char *const REFUSALS[] = {
     "step: neither a table line nor what the rule gives",
     "end: the last line is not the fact put",
     "class: a literal as subject or object of subclass, subproperty, domain or range, or as object of type",
-    "statement: not in the form that the import takes, or above 65,536 bytes",
+    "statement: not in the form that the import takes",
     "unknown node: a blank node as subject or object",
     "crowd: more than 1,024 different facts",
 };
@@ -53,7 +56,7 @@ int asks_for_help(int argc, char **argv) {
 }
 
 void fail(const char *what, const char *name) {
-    fprintf(stderr, "%s: %s: %s\n", PROGRAM, name, what);
+    fprintf(stderr, "%s: %s: %s\n", PROGRAM, shown_file(name), what);
     exit(2);
 }
 
@@ -71,9 +74,11 @@ const char *predicate_word(uint32_t predicate) {
     return predicate >= 1 && predicate <= VOCABULARY_LAST ? VOCABULARY[predicate] : term_word(predicate);
 }
 
+static int is_word(const char *word, const char *text, size_t len) { return strlen(word) == len && memcmp(word, text, len) == 0; }
+
 uint32_t predicate_number(const char *word, size_t len) {
     for (uint32_t i = 1; i <= VOCABULARY_LAST; i++)
-        if (strlen(VOCABULARY[i]) == len && memcmp(VOCABULARY[i], word, len) == 0) return i;
+        if (is_word(VOCABULARY[i], word, len) || is_word(OFFICE_WORDS[i], word, len)) return i;
     return 0;
 }
 
@@ -85,6 +90,10 @@ const char *refusal_words(unsigned number) {
 
 const char *question_refusal(unsigned number) {
     return number == FACTBOX_BLANK ? "blank: a gap (? or 60000 to 65535) where none may stand" : refusal_words(number);
+}
+
+const char *text_refusal(unsigned number) {
+    return number == FACTBOX_STATEMENT ? "statement: above 65,536 bytes" : refusal_words(number);
 }
 
 int is_blank(uint32_t term) { return term >= BLANK_FIRST && term <= TERM_LAST; }

@@ -24,7 +24,7 @@ const char *term_word(uint32_t term);
 /* A predicate of the vocabulary as its word, any other as a term. */
 const char *predicate_word(uint32_t predicate);
 
-/* The number of a vocabulary word of `len` bytes; 0 for any other word. */
+/* The number of a vocabulary word, as subclass or subClassOf, of `len` bytes; 0 for any other word. */
 uint32_t predicate_number(const char *word, size_t len);
 
 /* What belongs in a field of a fact with a predicate of the vocabulary, "class" or "property", where no literal may stand; NULL
@@ -36,6 +36,9 @@ const char *refusal_words(unsigned number);
 
 /* The same of a question, where a blank node is a gap. */
 const char *question_refusal(unsigned number);
+
+/* The same of a whole text to import, which is too large where a line would not be in the form. */
+const char *text_refusal(unsigned number);
 
 /* Which field of the fact earns refusal 3, 4, 5 or 12, and why: the first one from *field on, which is then the one behind
  * it; NULL if there is none. The text holds until the next call. */

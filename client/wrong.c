@@ -1,10 +1,18 @@
 /* An import that goes wrong, for the tests: the box's own, and then a change to its table. The variable WRONG says which: `object` puts
  * another object in the first fact, `fewer` leaves out the last fact, `more` adds one, `torn` spoils a column, `numbers` exchanges the
- * numbers 6 and 7. */
+ * numbers 6 and 7. Or a call on files goes wrong: `rename` lets the second renaming fail, `renames` all but the first,
+ * `link` every link and the third renaming, `place` every link and the second, `access` every question whether a file may be written. */
 #include "factbox.h"
 
+#include <errno.h>
+#include <stdio.h>
 #include <stdlib.h>
 #include <string.h>
+#include <unistd.h>
+
+int wrong_rename(const char *from, const char *to);
+int wrong_link(const char *from, const char *to);
+int wrong_access(const char *name, int how);
 
 uint64_t wrong_import(const uint8_t *text, size_t text_len, uint8_t *table, size_t table_len);
 
@@ -32,3 +40,25 @@ uint64_t wrong_import(const uint8_t *text, size_t text_len, uint8_t *table, size
     memcpy(table + facts * FACTBOX_TABLE_LINE, added, FACTBOX_TABLE_LINE);
     return result + one;
 }
+
+static int is_wrong(const char *how) {
+    const char *set = getenv("WRONG");
+    return set && strcmp(set, how) == 0;
+}
+
+/* A call that fails. */
+static int failed(void) {
+    errno = EACCES;
+    return -1;
+}
+
+int wrong_rename(const char *from, const char *to) {
+    static int calls;
+    calls++;
+    if ((calls == 2 && (is_wrong("rename") || is_wrong("place"))) || (calls >= 2 && is_wrong("renames"))) return failed();
+    return calls == 3 && is_wrong("link") ? failed() : rename(from, to);
+}
+
+int wrong_link(const char *from, const char *to) { return is_wrong("link") || is_wrong("place") ? failed() : link(from, to); }
+
+int wrong_access(const char *name, int how) { return is_wrong("access") ? failed() : access(name, how); }
