@@ -69,8 +69,8 @@
  * A language tag is @ and letters, then perhaps parts of letters and digits, each behind a hyphen: "x"@en, "x"@en-GB and "x"@en-1
  * pass; "x"@e1, "x"@1 and "x"@en- get 13. Letters are a to z and A to Z.
  *
- * Spaces and tabs, also none, may stand before, between and behind these and the full stop, but not inside a literal's parts
- * or between them. An IRI has no byte up to 32 and none of < > " { } | ^ ` \; it may be relative or empty. A literal's text has
+ * Spaces and tabs, also none, may stand before, between and behind these and the full stop, but not between a literal's parts,
+ * nor in its tag or datatype. An IRI has no byte up to 32 and none of < > " { } | ^ ` \; it may be relative or empty. A literal's text has
  * any bytes but " \ 10 and 13, a comment any but 10 and 13. So there are no escapes, and byte 13 stands nowhere. Bytes above 127
  * pass unread in IRIs, texts, labels and comments, and nowhere else. A blank node as subject or object gets a refusal of its own: it
  * is _: and a label of letters, digits, _ : - . and bytes above 127, with neither - nor . first and no . last.

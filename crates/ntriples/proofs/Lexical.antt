@@ -299,6 +299,42 @@ adjoined q r b h (u, v, e, k, o) =
     (⊎-elim (λ (d : Of datatype v). inr (head-eq-of-cons-eq (i ∙ typed v .0 d .1)))
     (λ (d : Of tag v). inl (head-eq-of-cons-eq (i ∙ tags v .0 d .2)))) o
 
+-- ---- tokens of a line
+
+parts : (l : List ℕ) (s p o : Token) → Says l s p o → (Of iri s ⊎ Of blank s) × Of iri p × (Of iri o ⊎ (Of blank o ⊎ Of literal o))
+unfolding Of subject object
+parts l s p o h = (h .is-subject, h .is-predicate, h .is-object)
+
+literals : (t : List ℕ) → Of literal t ↔ ((q : List ℕ) × (r : List ℕ) × (t ≡ q ++ r) × Of quoted q × ((r ≡ []) ⊎ (Of datatype r ⊎ Of tag r)))
+unfolding Of literal
+literals t = (λ h. h, λ h. h)
+
+-- ---- where a byte above 127 stands
+
+module _ (b : ℕ) (high : 127 < b) (t : List ℕ) where
+  -- in one list or in the one behind it
+  either : (u : List ℕ) {v : List ℕ} → (List·Memᴰ b u → List·Memᴰ b t) → (List·Memᴰ b v → List·Memᴰ b t) → List·Memᴰ b (u ++ v) → List·Memᴰ b t
+  either u f g m = ⊎-elim f g (List·Memᴰ·append-cases u m)
+
+  -- not in white space, and not where the full stop is
+  past : (w : List ℕ) {v : List ℕ} → Of white w → (List·Memᴰ b v → List·Memᴰ b t) → List·Memᴰ b (w ++ v) → List·Memᴰ b t
+  past w k = either w (λ x. absurd (above b high .5 (spaces w .0 k b x)))
+
+  stopped : {v : List ℕ} → (List·Memᴰ b v → List·Memᴰ b t) → List·Memᴰ b ((46 ∷ []) ++ v) → List·Memᴰ b t
+  stopped = either (46 ∷ []) (λ x. absurd (omega (arith, List·Memᴰ·eq-of-singleton x, high)))
+
+in-statements : (l : List ℕ) (s p o : Token) (h : Says l s p o) (b : ℕ) → List·Memᴰ b l → 127 < b → List·Memᴰ b (s ++ (p ++ (o ++ h .r)))
+in-statements l s p o h b m n =
+    let t = s ++ (p ++ (o ++ h .r)) in
+    past b n t (h .w0) (h .white0) (either b n t s (Memᴰ·append-left (p ++ (o ++ h .r)))
+    (past b n t (h .w1) (h .white1) (either b n t p (λ x. Memᴰ·append-right s (Memᴰ·append-left (o ++ h .r) x))
+    (past b n t (h .w2) (h .white2) (either b n t o (λ x. Memᴰ·append-right s (Memᴰ·append-right p (Memᴰ·append-left (h .r) x)))
+    (past b n t (h .w3) (h .white3) (stopped b n t
+    (past b n t (h .w4) (h .white4) (λ x. Memᴰ·append-right s (Memᴰ·append-right p (Memᴰ·append-right o x))))))))))) (subst (List·Memᴰ b) (h .line) m)
+
+in-comments : (l : List ℕ) (h : Silent l) (b : ℕ) → List·Memᴰ b l → 127 < b → List·Memᴰ b (h .r)
+in-comments l h b m n = past b n (h .r) (h .w) (h .is-white) (λ x. x) (subst (List·Memᴰ b) (h .line) m)
+
 pub lexical : Lexical
 lexical = record {
   carriage-return = carriage-return;
@@ -311,6 +347,10 @@ lexical = record {
   comments = comments;
   spaces = spaces;
   above = above;
+  in-statements = in-statements;
+  in-comments = in-comments;
+  parts = parts;
+  literals = literals;
   adjoined = adjoined;
   typed = typed;
 }

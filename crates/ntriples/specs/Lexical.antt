@@ -5,7 +5,7 @@ use mathlib.Core.Path.{_≡_}
 use mathlib.Core.Logic.{_⊎_, _↔_}
 use mathlib.Core.List.{List, [], _∷_, _++_, List·Memᴰ}
 use Prim.Native.Nat.{ℕ, _≤_, _<_}
-use Rattle.ntriples.specs.Grammar.{Of, iri, tag, quoted, datatype, literal, blank, white, rest, Says}
+use Rattle.ntriples.specs.Grammar.{Of, iri, tag, quoted, datatype, literal, blank, white, rest, Says, Silent}
 use Rattle.ntriples.specs.Outcomes.{Foreign}
 use Rattle.ntriples.specs.Tokens.{Token}
 
@@ -85,6 +85,13 @@ pub record Lexical : Type 0 where
   -- "bytes above 127 pass unread inside IRIs, a literal's quotes, blank labels and comments and nowhere else": by the laws above they do, as they are
   -- bytes of these, the label's first and last among them, and not of tags or white space
   pub above : (b : ℕ) → 127 < b → IriByte b × QuotedByte b × (LabelByte b × NoneOf (45 ∷ 46 ∷ []) b) × CommentByte b × (LetterDigitByte b → ⊥) × (WhiteByte b → ⊥)
+  -- so in a statement's line they stand in a token or in the comment, in any other line of the subset in the comment
+  pub in-statements : (l : List ℕ) (s p o : Token) (h : Says l s p o) (b : ℕ) → List·Memᴰ b l → 127 < b → List·Memᴰ b (s ++ (p ++ (o ++ h .r)))
+  pub in-comments : (l : List ℕ) (h : Silent l) (b : ℕ) → List·Memᴰ b l → 127 < b → List·Memᴰ b (h .r)
+  -- [2] to [5]: what a statement's three tokens are
+  pub parts : (l : List ℕ) (s p o : Token) → Says l s p o → (Of iri s ⊎ Of blank s) × Of iri p × (Of iri o ⊎ (Of blank o ⊎ Of literal o))
+  -- "A literal is its full token with language tag or datatype": its quotes, and right behind them nothing, a datatype or a tag
+  pub literals : (t : List ℕ) → Of literal t ↔ ((q : List ℕ) × (r : List ℕ) × (t ≡ q ++ r) × Of quoted q × ((r ≡ []) ⊎ (Of datatype r ⊎ Of tag r)))
   -- "no space or tab stands between a literal's parts": behind its quotes @ or ^ comes first, behind ^^ the IRI
   pub adjoined : (q r : List ℕ) (b : ℕ) → Of quoted q → Of literal (q ++ (b ∷ r)) → (b ≡ 64) ⊎ (b ≡ 94)
   pub typed : (t : List ℕ) → Of datatype t ↔ ((u : List ℕ) × (t ≡ 94 ∷ 94 ∷ u) × Of iri u)
