@@ -37,7 +37,7 @@ use Rattle.question.specs.Question.{printedFor, fillingFor, answerBy, answerOf,
 use Rattle.question.proofs.Answered.{accepted-formed, yes-fewest, long-fewest, no-fewest, answer-unnamed, same-count}
 use Rattle.question.proofs.Alike.{answer-same, output-same}
 use Rattle.question.proofs.ByRules.{answers-by}
-use Rattle.entail.specs.Packed.{packed, unpacked}
+use Rattle.packing.specs.Packed.{packed, unpacked}
 use Rattle.entail.specs.Calls.{CheckCall, ReadCall, WriteCall}
 use Rattle.entail.proofs.Unpacked.{question-unpacked, check-unpacked, read-unpacked, write-unpacked, call-means, call-judges}
 use Rattle.batch.proofs.Whole.{replies-output}

@@ -22,7 +22,7 @@ use Rattle.facts.proofs.Codes.{number-within}
 use Rattle.table.specs.Tables.{tableOf}
 use Rattle.question.specs.Question.{needed, fillingFor, questionAnswer, outputAfter, printedFor, printedFrom, written, Question, question, Prints}
 use Rattle.question.proofs.Answered.{yes-fewest, yes-input, fewest-filled, fewest-prints}
-use Rattle.entail.specs.Packed.{packed}
+use Rattle.packing.specs.Packed.{packed}
 use Rattle.entail.proofs.Unpacked.{question-unpacked, check-unpacked}
 use Rattle.batch.specs.declared.Query.{Query}
 use Rattle.batch.specs.declared.Input.the-variants.{Torn}

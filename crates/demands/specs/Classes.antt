@@ -20,7 +20,7 @@ use Rattle.rules.specs.Rules.{Gives, Rule}
 use Rattle.rules.specs.Derivations.{Justified, Derives}
 use Rattle.derivation.specs.Bytes.{lineAt}
 use Rattle.acceptance.specs.Check.{linesOf}
-use Rattle.entail.specs.Packed.{unpacked}
+use Rattle.packing.specs.Packed.{unpacked}
 use Rattle.entail.specs.Calls.{CheckCall}
 use Rattle.demands.specs.Refusals.{SoundTable, TextAsClass, Lines}
 

@@ -31,7 +31,7 @@ use Rattle.rules.specs.Fillings.{DerivableFilling, RefutedFillings, LeastFillin
 use Rattle.acceptance.specs.Check.{DerivationOf}
 use Rattle.question.specs.Question.{needed, Question, question, Prints, AnswersBy}
 use Rattle.records.specs.Records.{overRecords, TransfersRecords}
-use Rattle.entail.specs.Packed.{unpacked}
+use Rattle.packing.specs.Packed.{unpacked}
 use Rattle.entail.specs.Calls.{QuestionCall, CheckCall, ReadCall, WriteCall}
 use Rattle.batch.specs.declared.Query.{Query}
 use Rattle.batch.specs.declared.Input.the-variants.{Torn, Parts}

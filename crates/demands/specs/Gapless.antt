@@ -18,7 +18,7 @@ use Rattle.rules.specs.declared.Line.{Line}
 use Rattle.rules.specs.Rules.{Rule}
 use Rattle.rules.specs.Derivations.{Derives, Derivable, tableLines, Least, Refuted}
 use Rattle.question.specs.Question.{needed, question, Prints}
-use Rattle.entail.specs.Packed.{unpacked}
+use Rattle.packing.specs.Packed.{unpacked}
 use Rattle.entail.specs.Calls.{CheckCall}
 use Rattle.demands.specs.Refusals.{SoundTable, FactRefused, AskedRefused, QuestionRefused}
 use Rattle.demands.specs.Demands.{Put, said, Accepts, Within, Shown}

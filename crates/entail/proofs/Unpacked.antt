@@ -1,4 +1,4 @@
--- What the four calls return, taken apart, is the number, place, count and term of the definition's answer; so what that answer means holds of
+-- What the five calls return, taken apart, is the number, place, count and term of the definition's answer; so what that answer means holds of
 -- them.
 -- Assumes nothing.
 use mathlib.Core.Path.{_≡_, refl}
@@ -13,9 +13,10 @@ use Rattle.acceptance.proofs.Accepts.{check-judges}
 use Rattle.question.specs.Question.{Question, questionAnswer, Means}
 use Rattle.question.proofs.Answered.{answers-mean}
 use Rattle.imports.specs.Import.{importOf}
-use Rattle.entail.specs.Packed.{unpacked}
+use Rattle.packing.specs.Packed.{unpacked}
+use Rattle.packing.proofs.Packed.{unpack-pack}
 use Rattle.entail.specs.Calls.{QuestionCall, CheckCall, ReadCall, WriteCall, ImportCall}
-use Rattle.entail.proofs.Small.{unpack-pack, read-small, write-small, import-small, check-small, question-small}
+use Rattle.entail.proofs.Small.{read-small, write-small, import-small, check-small, question-small}
 
 pub question-unpacked : {q : Question} {entry exit : List ℕ} {r : ℕ} → QuestionCall q entry exit r → unpacked r ≡ codeOf (questionAnswer (q .table) (q .fact) (q .limit) (length entry))
 question-unpacked g = rw (g .answer) (unpack-pack _ (question-small _ _ _ _))

@@ -10,7 +10,7 @@ use Rattle.table.specs.Tables.{rowOf, tableBytes, tableOf, tableOfRow, settled,
 use Rattle.acceptance.specs.Check.{checkAnswer}
 use Rattle.question.specs.Question.{Question, questionAnswer, outputAfter}
 use Rattle.imports.specs.Import.{importOf}
-use Rattle.entail.specs.Packed.{packed}
+use Rattle.packing.specs.Packed.{packed}
 
 -- a question; entry and exit are the output, document 01's paper
 pub record QuestionCall (q : Question) (entry exit : List ℕ) (r : ℕ) : Type 0 where

@@ -1,32 +1,14 @@
 // The public library: the question, the check, reading, writing and the import as C calls them (document 01, "Panel and program"; document 02,
 // Point 3).
-// A slice is a pointer and then a length; an answer is one number: bits 0 to 7 number, 8 to 31 place, 32 to 47 count, 48 to 63 the
-// term that a yes names for a gap.
-use facts::Answer;
+// A slice is a pointer and then a length; an answer is one number, whose bits the crate `packing` lays out.
 use facts::Fact;
+use packing::pack;
 ghost use mathlib.Core.Path.{_≡_};
 ghost use Rattle.facts.specs.Facts.{fact};
-ghost use Rattle.facts.specs.Answers.{codeOf};
 ghost use Rattle.acceptance.specs.Check.{Judges};
 ghost use Rattle.question.specs.Question.{question, Means};
-ghost use Rattle.entail.specs.Packed.{packed, unpacked, Small};
+ghost use Rattle.packing.specs.Packed.{unpacked};
 ghost use Rattle.entail.specs.Calls.{QuestionCall, CheckCall, ReadCall, WriteCall, ImportCall};
-
-// The bits of a place (document 01's: a line's number, or 0), of a count and of the term named begin here.
-const PLACE: u64 = 256;
-
-const COUNT: u64 = 4294967296;
-
-const FILLING: u64 = 281474976710656;
-
-// An answer in one number.
-fn pack(a: Answer) -> u64
-    requires { ⌜ Small (codeOf a) ⌝ }
-    ensures { λ r. ⌜ r ≡ packed (codeOf a) ⌝ }
-{
-    let c = codes::code_of(a);
-    c.number as u64 + PLACE * c.place as u64 + COUNT * c.count as u64 + FILLING * c.filling as u64
-}
 
 // The fact of three terms.
 fn fact_of(subject: u32, predicate: u32, object: u32) -> Fact

@@ -37,7 +37,7 @@ use Rattle.imports.specs.Import.{knownBy, importOf}
 use Rattle.imports.proofs.Parted.{parted, parted-only}
 use Rattle.imports.proofs.Sizes.{known-few, token-kinds}
 use Rattle.imports.proofs.Imported.{import-refused}
-use Rattle.entail.specs.Packed.{unpacked}
+use Rattle.packing.specs.Packed.{unpacked}
 use Rattle.entail.specs.Calls.{ReadCall, ImportCall}
 use Rattle.entail.proofs.Unpacked.{import-unpacked}
 use Rattle.demands.proofs.Refusals.{Lacks, answers-lack, settled-answers, memory-unchanged}

@@ -26,7 +26,7 @@ use Rattle.numbering.specs.Vocabulary.{sc, sp, dom, range, type, vocabulary, te
 use Rattle.numbering.specs.Appearance.{isOther, Different}
 use Rattle.imports.specs.Lines.{linesOf, Parted, Statement, tokens}
 use Rattle.imports.specs.Import.{knownBy, factOf}
-use Rattle.entail.specs.Packed.{unpacked}
+use Rattle.packing.specs.Packed.{unpacked}
 use Rattle.entail.specs.Calls.{ReadCall, ImportCall}
 
 -- ---- what an input says

@@ -1,4 +1,4 @@
--- `search_print::put_joined` meets its contract: the second line is written into the part behind the first.
+-- `search_join::put_joined` meets its contract: the second line is written into the part behind the first.
 -- Assumes nothing.
 use mathlib.Core.Path.{sym, ap, _∙_}
 use native.Mathlib.Omega.{arith}
@@ -14,8 +14,8 @@ use lib.ListN.{length-take, length-drop}
 use Rattle.columns.specs.Lines.{over}
 use Rattle.question.proofs.Printing.{two-lines, join-below}
 use borrow.Author.Needs.{needs}
-use Rattle.search_print.proofs.put_joined.Statement.{statement}
-use Rattle.search_print.proofs.put_joined.Tie as tie
+use Rattle.search_join.proofs.put_joined.Statement.{statement}
+use Rattle.search_join.proofs.put_joined.Tie as tie
 
 table-line-requires : tie.Need-table-line-requires
 table-line-requires c κs = search needs

@@ -1,11 +1,11 @@
--- `entail::pack` meets its contract: the sum has no more than 64 bits.
+-- `packing::pack` meets its contract: the sum has no more than 64 bits.
 -- Assumes nothing.
 use mathlib.Core.Path.{ap}
 use native.Mathlib.Omega.{arith}
 use borrow.Author.Needs.{needs}
-use Rattle.entail.specs.Packed.{packed}
-use Rattle.entail.proofs.pack.Statement.{statement}
-use Rattle.entail.proofs.pack.Tie as tie
+use Rattle.packing.specs.Packed.{packed}
+use Rattle.packing.proofs.pack.Statement.{statement}
+use Rattle.packing.proofs.pack.Tie as tie
 
 code-of-requires : tie.Need-code-of-requires
 code-of-requires c κs = search needs

@@ -1,4 +1,4 @@
--- `search_print::print_order` meets its contract: a data fact that begins the path is put behind the sp facts; where none begins it nothing is moved.
+-- `search_order::print_order` meets its contract: a data fact that begins the path is put behind the sp facts; where none begins it nothing is moved.
 -- Assumes nothing.
 use native.Mathlib.Omega.{arith}
 use mathlib.Core.Path.{sym, ap, _∙_}
@@ -6,8 +6,8 @@ use Rattle.facts.specs.declared.Fact.{Fact}
 use Rattle.rules.specs.Paths.{named}
 use Rattle.question.proofs.Moved.{rotated-print, print-same}
 use borrow.Author.Needs.{needs}
-use Rattle.search_print.proofs.print_order.Statement.{statement}
-use Rattle.search_print.proofs.print_order.Tie as tie
+use Rattle.search_order.proofs.print_order.Statement.{statement}
+use Rattle.search_order.proofs.print_order.Tie as tie
 
 slice-read-row-fact : tie.Need-slice-read-row-fact
 slice-read-row-fact c = search needs

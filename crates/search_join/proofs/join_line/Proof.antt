@@ -1,12 +1,12 @@
--- `search_print::join_line` meets its contract: one line for each case of `join`.
+-- `search_join::join_line` meets its contract: one line for each case of `join`.
 -- Assumes nothing.
 use mathlib.Core.Path.{sym, _∙_}
 use native.Mathlib.Numerals.{add-one}
 use borrow.Author.Tests.{eq-eqb, ne-eqb}
 use Rattle.rules.specs.Printed.{join}
 use borrow.Author.Needs.{needs}
-use Rattle.search_print.proofs.join_line.Statement.{statement}
-use Rattle.search_print.proofs.join_line.Tie as tie
+use Rattle.search_join.proofs.join_line.Statement.{statement}
+use Rattle.search_join.proofs.join_line.Tie as tie
 
 is-name-requires : tie.Need-is-name-requires
 is-name-requires c κs = search needs

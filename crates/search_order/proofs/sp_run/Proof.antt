@@ -1,4 +1,4 @@
--- `search_print::sp_run` meets its contract: the sp facts are counted up to the first other fact.
+-- `search_order::sp_run` meets its contract: the sp facts are counted up to the first other fact.
 -- Assumes nothing.
 use mathlib.Core.Logic.{inl, inr}
 use mathlib.Core.Path.{_≡_, sym, ap, _∙_}
@@ -9,8 +9,8 @@ use lib.ListN.{getD}
 use Rattle.facts.specs.declared.Fact.{Fact}
 use Rattle.table.specs.Tables.{rowFact}
 use Rattle.question.proofs.Laws.{equal-or}
-use Rattle.search_print.proofs.sp_run.Statement.{statement}
-use Rattle.search_print.proofs.sp_run.Tie as tie
+use Rattle.search_order.proofs.sp_run.Statement.{statement}
+use Rattle.search_order.proofs.sp_run.Tie as tie
 
 abbrev Inv-loop : tie.InvT-loop
 Inv-loop row n f path k₀ k = (k < f) × ((i : ℕ) → i < k → rowFact row (getD path (suc i) 0) .predicate ≡ 2)

@@ -1,4 +1,4 @@
--- `search_print::rotate` meets its contract: the loop moves the next k places to the front, one by one.
+-- `search_order::rotate` meets its contract: the loop moves the next k places to the front, one by one.
 -- Assumes nothing.
 use mathlib.Core.Path.{_≡_, refl, sym, ap, _∙_, subst}
 use Prim.Native.Nat.{ℕ, suc, _+_, _-_, _≤_, _<_}
@@ -7,8 +7,8 @@ use native.Mathlib.Omega.{arith}
 use lib.ListN.{length, getD, set, length-set}
 use lib.Seq.{getD-set-same, getD-set-other}
 use Rattle.question.proofs.Laws.{equal-or}
-use Rattle.search_print.proofs.rotate.Statement.{statement}
-use Rattle.search_print.proofs.rotate.Tie as tie
+use Rattle.search_order.proofs.rotate.Statement.{statement}
+use Rattle.search_order.proofs.rotate.Tie as tie
 
 abbrev Inv-loop : tie.InvT-loop
 Inv-loop k path₀ first i₀ path i = (i ≤ k) × (length path ≡ length path₀) × ((j : ℕ) → j < i → getD path j 0 ≡ getD path₀ (suc j) 0) × ((j : ℕ) → i ≤ j → getD path j 0 ≡ getD path₀ j 0)
