@@ -1,9 +1,9 @@
 // A gap in a question (document 02, Point 1): which refusal its triple earns, and the term that fills the gap.
+use fact_tests::has_no_term;
 use facts::Fact;
 use facts::Refusal;
 use facts::Verdict;
 use faults::fault;
-use faults::has_no_term;
 use terms::is_gap;
 ghost use mathlib.Core.Path.{_≡_};
 ghost use Rattle.facts.specs.Gaps.{blankRefused, questionFault, fillingOf, termOr, filledBy};

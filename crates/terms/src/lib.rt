@@ -1,114 +1,19 @@
-// The kind of a term, whether a fact is well-formed (document 01, "Terms and facts"; document 02, Point 2), and what is a gap (document
-// 02, Point 1). Only this crate tells terms apart.
+// What is a name, what is a gap (document 02, Point 1), and whether a fact is well-formed (document 01, "Terms and facts"; document 02,
+// Point 2). Only `kinds` and this crate tell terms apart.
 use facts::Fact;
-use facts::Kind;
 use facts::TYPE;
+use kinds::BLANK_FIRST;
+use kinds::LITERAL_FIRST;
+use kinds::NAME_FIRST;
+use kinds::is_blank;
+use kinds::is_literal;
+use kinds::is_name_kind;
+use kinds::kind_of;
 ghost use mathlib.Core.Bool.{false};
 ghost use mathlib.Core.Path.{_≡_};
-ghost use Rattle.facts.specs.Terms.{kindOf, isNoTerm, isVocabulary, isName, isLiteral, isBlank};
+ghost use Rattle.facts.specs.Terms.{kindOf, isName};
 ghost use Rattle.facts.specs.Facts.{isNode, isPredicate, wellFormed};
 ghost use Rattle.facts.specs.Gaps.{isGap};
-
-// The first and last numbers of the kinds.
-const NAME_FIRST: u32 = 6;
-
-const LITERAL_FIRST: u32 = 40000;
-
-const BLANK_FIRST: u32 = 60000;
-
-const TERM_LAST: u32 = 65535;
-
-// The kind of a number.
-pub fn kind_of(n: u32) -> Kind
-    ensures { λ r. ⌜ r ≡ kindOf n ⌝ }
-{
-    if n == 0 {
-        return Kind::NoTerm;
-    }
-    if n < NAME_FIRST {
-        return Kind::Vocabulary;
-    }
-    if n < LITERAL_FIRST {
-        return Kind::Name;
-    }
-    if n < BLANK_FIRST {
-        return Kind::Literal;
-    }
-    if n <= TERM_LAST {
-        return Kind::BlankNode;
-    }
-    Kind::Beyond
-}
-
-// 0, or above 16 bits.
-pub fn is_no_term(k: Kind) -> bool
-    ensures { λ r. ⌜ r ≡ isNoTerm k ⌝ }
-{
-    match k {
-        Kind::NoTerm => true,
-        Kind::Beyond => true,
-        Kind::Vocabulary => false,
-        Kind::Name => false,
-        Kind::Literal => false,
-        Kind::BlankNode => false,
-    }
-}
-
-// A blank node.
-pub fn is_blank(k: Kind) -> bool
-    ensures { λ r. ⌜ r ≡ isBlank k ⌝ }
-{
-    match k {
-        Kind::BlankNode => true,
-        Kind::NoTerm => false,
-        Kind::Vocabulary => false,
-        Kind::Name => false,
-        Kind::Literal => false,
-        Kind::Beyond => false,
-    }
-}
-
-// One of the vocabulary.
-pub fn is_vocabulary(k: Kind) -> bool
-    ensures { λ r. ⌜ r ≡ isVocabulary k ⌝ }
-{
-    match k {
-        Kind::Vocabulary => true,
-        Kind::NoTerm => false,
-        Kind::Name => false,
-        Kind::Literal => false,
-        Kind::BlankNode => false,
-        Kind::Beyond => false,
-    }
-}
-
-// A literal.
-pub fn is_literal(k: Kind) -> bool
-    ensures { λ r. ⌜ r ≡ isLiteral k ⌝ }
-{
-    match k {
-        Kind::Literal => true,
-        Kind::NoTerm => false,
-        Kind::Vocabulary => false,
-        Kind::Name => false,
-        Kind::BlankNode => false,
-        Kind::Beyond => false,
-    }
-}
-
-// A name.
-fn is_name_kind(k: Kind) -> bool
-    ensures { λ r. ⌜ r ≡ isName k ⌝ }
-{
-    match k {
-        Kind::Name => true,
-        Kind::NoTerm => false,
-        Kind::Vocabulary => false,
-        Kind::Literal => false,
-        Kind::BlankNode => false,
-        Kind::Beyond => false,
-    }
-}
 
 // A number is a name.
 pub fn is_name(n: u32) -> bool

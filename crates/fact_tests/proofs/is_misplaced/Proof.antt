@@ -1,9 +1,9 @@
--- `faults::is_misplaced` meets its contract: the three terms' kinds are asked.
+-- `fact_tests::is_misplaced` meets its contract: the three terms' kinds are asked.
 -- Assumes nothing.
 use borrow.Author.Needs.{needs}
 use Rattle.facts.specs.Facts.{misplaced}
-use Rattle.faults.proofs.is_misplaced.Statement.{statement}
-use Rattle.faults.proofs.is_misplaced.Tie as tie
+use Rattle.fact_tests.proofs.is_misplaced.Statement.{statement}
+use Rattle.fact_tests.proofs.is_misplaced.Tie as tie
 
 kind-of-requires : tie.Need-kind-of-requires
 kind-of-requires c κs = search needs

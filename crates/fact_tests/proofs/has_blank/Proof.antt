@@ -1,9 +1,9 @@
--- `faults::has_blank` meets its contract: the three terms' kinds are asked.
+-- `fact_tests::has_blank` meets its contract: the three terms' kinds are asked.
 -- Assumes nothing.
 use borrow.Author.Needs.{needs}
 use Rattle.facts.specs.Facts.{hasBlank}
-use Rattle.faults.proofs.has_blank.Statement.{statement}
-use Rattle.faults.proofs.has_blank.Tie as tie
+use Rattle.fact_tests.proofs.has_blank.Statement.{statement}
+use Rattle.fact_tests.proofs.has_blank.Tie as tie
 
 kind-of-requires : tie.Need-kind-of-requires
 kind-of-requires c κs = search needs

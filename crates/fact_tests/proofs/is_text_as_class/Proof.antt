@@ -1,9 +1,9 @@
--- `faults::is_text_as_class` meets its contract: subject and object, each with what the predicate asks of it.
+-- `fact_tests::is_text_as_class` meets its contract: subject and object, each with what the predicate asks of it.
 -- Assumes nothing.
 use borrow.Author.Needs.{needs}
 use Rattle.facts.specs.Facts.{textAsClass}
-use Rattle.faults.proofs.is_text_as_class.Statement.{statement}
-use Rattle.faults.proofs.is_text_as_class.Tie as tie
+use Rattle.fact_tests.proofs.is_text_as_class.Statement.{statement}
+use Rattle.fact_tests.proofs.is_text_as_class.Tie as tie
 
 kind-of-requires : tie.Need-kind-of-requires
 kind-of-requires c κs = search needs

@@ -1,9 +1,9 @@
--- `faults::has_no_term` meets its contract: the three terms' kinds are asked.
+-- `fact_tests::has_no_term` meets its contract: the three terms' kinds are asked.
 -- Assumes nothing.
 use borrow.Author.Needs.{needs}
 use Rattle.facts.specs.Facts.{hasNoTerm}
-use Rattle.faults.proofs.has_no_term.Statement.{statement}
-use Rattle.faults.proofs.has_no_term.Tie as tie
+use Rattle.fact_tests.proofs.has_no_term.Statement.{statement}
+use Rattle.fact_tests.proofs.has_no_term.Tie as tie
 
 kind-of-requires : tie.Need-kind-of-requires
 kind-of-requires c κs = search needs

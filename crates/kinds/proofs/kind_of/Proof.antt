@@ -1,9 +1,9 @@
--- `terms::kind_of` meets its contract: each test picks the case.
+-- `kinds::kind_of` meets its contract: each test picks the case.
 -- Assumes nothing.
 use borrow.Author.Tests.{eq-eqb, ne-eqb, lt-ltb, le-ltb, le-leb, lt-leb}
 use Rattle.facts.specs.Terms.{kindOf}
-use Rattle.terms.proofs.kind_of.Statement.{statement}
-use Rattle.terms.proofs.kind_of.Tie as tie
+use Rattle.kinds.proofs.kind_of.Statement.{statement}
+use Rattle.kinds.proofs.kind_of.Tie as tie
 
 returns : tie.Need-returns
 unfolding kindOf

@@ -1,9 +1,9 @@
--- `faults::names_object` meets its contract: those of `names_subject`, and type.
+-- `fact_tests::names_object` meets its contract: those of `names_subject`, and type.
 -- Assumes nothing.
 use borrow.Author.Needs.{needs}
 use Rattle.facts.specs.Facts.{namedObject}
-use Rattle.faults.proofs.names_object.Statement.{statement}
-use Rattle.faults.proofs.names_object.Tie as tie
+use Rattle.fact_tests.proofs.names_object.Statement.{statement}
+use Rattle.fact_tests.proofs.names_object.Tie as tie
 
 names-subject-requires : tie.Need-names-subject-requires
 names-subject-requires c κs = search needs

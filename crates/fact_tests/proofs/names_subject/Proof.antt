@@ -1,8 +1,8 @@
--- `faults::names_subject` meets its contract: the four predicates.
+-- `fact_tests::names_subject` meets its contract: the four predicates.
 -- Assumes nothing.
 use Rattle.facts.specs.Facts.{namedSubject}
-use Rattle.faults.proofs.names_subject.Statement.{statement}
-use Rattle.faults.proofs.names_subject.Tie as tie
+use Rattle.fact_tests.proofs.names_subject.Statement.{statement}
+use Rattle.fact_tests.proofs.names_subject.Tie as tie
 
 returns : tie.Need-returns
 unfolding namedSubject
