@@ -1,4 +1,5 @@
 // The refusals that the lines of an input earn (document 02, Point 3): 13 and 14 of a line, then 5 and 12 of a statement's fact.
+use byte_runs::byte_at;
 use facts::Fact;
 use facts::Refusal;
 use facts::Verdict;
@@ -11,7 +12,6 @@ use ntriples::QUOTE;
 use ntriples::Span;
 use numbering::FIRST_LITERAL;
 use numbering::FIRST_NAME;
-use token_ends::byte_at;
 use vocabulary::vocabulary_of;
 ghost use mathlib.Core.Path.{_≡_};
 ghost use Prim.Native.Nat.{_≤_, _<_};

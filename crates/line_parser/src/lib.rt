@@ -1,14 +1,14 @@
 // A line of N-Triples, taken apart (document 02, Point 3).
+use byte_runs::byte_at;
+use byte_runs::run_end;
 use ntriples::Class;
 use ntriples::HASH;
 use ntriples::Line;
 use ntriples::STOP;
 use ntriples::Span;
 use ntriples::UNDERSCORE;
-use token_ends::byte_at;
 use token_ends::iri_end;
 use token_ends::object_end;
-use token_ends::run_end;
 use token_ends::subject_end;
 ghost use mathlib.Core.Path.{_≡_};
 ghost use Rattle.ntriples.specs.Lexed.{ends, stops, fromObject, fromPredicate, fromSubject, lineOf};

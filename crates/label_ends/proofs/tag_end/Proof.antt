@@ -1,4 +1,4 @@
--- `token_ends::tag_end` meets its contract. The loop's invariant: the tag from its start ends where the rest from i on does.
+-- `label_ends::tag_end` meets its contract. The loop's invariant: the tag from its start ends where the rest from i on does.
 -- Assumes nothing.
 use mathlib.Core.Path.{_≡_, refl, sym, ap, _∙_}
 use mathlib.Core.Bool.{false}
@@ -8,8 +8,8 @@ use lib.ListN.{length}
 use denote.Ref.{now}
 use Rattle.ntriples.specs.Lexed.{byteAt, tagEnd}
 use Rattle.ntriples.proofs.Lexed.{any-default, goesOn, tagAt, tag-more, tag-part, tag-stop, tag-over}
-use Rattle.token_ends.proofs.tag_end.Statement.{statement}
-use Rattle.token_ends.proofs.tag_end.Tie as tie
+use Rattle.label_ends.proofs.tag_end.Statement.{statement}
+use Rattle.label_ends.proofs.tag_end.Tie as tie
 
 abbrev Inv-loop : tie.InvT-loop
 Inv-loop s at first₀ fresh₀ i₀ first fresh i = tagEnd s at ≡ tagAt first fresh s i

@@ -1,12 +1,12 @@
--- `token_ends::byte_at` meets its contract.
+-- `byte_runs::byte_at` meets its contract.
 -- Assumes nothing.
 use mathlib.Core.Path.{sym}
 use lib.ListN.{List·getD-eq-default}
 use denote.Ref.{now}
 use Rattle.ntriples.proofs.Lexed.{any-default}
 use borrow.Author.Needs.{needs}
-use Rattle.token_ends.proofs.byte_at.Statement.{statement}
-use Rattle.token_ends.proofs.byte_at.Tie as tie
+use Rattle.byte_runs.proofs.byte_at.Statement.{statement}
+use Rattle.byte_runs.proofs.byte_at.Tie as tie
 
 shared-slice-read-result : tie.Need-shared-slice-read-result
 shared-slice-read-result c = search needs

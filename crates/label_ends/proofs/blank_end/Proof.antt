@@ -1,4 +1,4 @@
--- `token_ends::blank_end` meets its contract.
+-- `label_ends::blank_end` meets its contract.
 -- Assumes nothing.
 use mathlib.Core.Path.{_≡_, sym, ap, _∙_}
 use mathlib.Core.Bool.{Bool, true, false, not, _||_}
@@ -9,8 +9,8 @@ use denote.Ref.{now}
 use Rattle.ntriples.specs.Lexed.{byteAt, trimmed, beginsLabel}
 use Rattle.ntriples.proofs.Lexed.{sits}
 use Rattle.ntriples.proofs.Lines.{blank-unopened, blank-half, blank-bare, blank-some, begins-label}
-use Rattle.token_ends.proofs.blank_end.Statement.{statement}
-use Rattle.token_ends.proofs.blank_end.Tie as tie
+use Rattle.label_ends.proofs.blank_end.Statement.{statement}
+use Rattle.label_ends.proofs.blank_end.Tie as tie
 
 byte-at-requires : tie.Need-byte-at-requires
 byte-at-requires c κs = tt

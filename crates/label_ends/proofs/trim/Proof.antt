@@ -1,12 +1,12 @@
--- `token_ends::trim` meets its contract. The loop's invariant: between i and the start stand only full stops.
+-- `label_ends::trim` meets its contract. The loop's invariant: between i and the start stand only full stops.
 -- Assumes nothing.
 use mathlib.Core.Path.{_≡_, refl, sym, ap, _∙_}
 use native.Mathlib.Omega.{arith}
 use denote.Ref.{now}
 use Rattle.ntriples.specs.Lexed.{trimmed}
 use Rattle.ntriples.proofs.Lexed.{trim-stops, trim-goes-on}
-use Rattle.token_ends.proofs.trim.Statement.{statement}
-use Rattle.token_ends.proofs.trim.Tie as tie
+use Rattle.label_ends.proofs.trim.Statement.{statement}
+use Rattle.label_ends.proofs.trim.Tie as tie
 
 abbrev Inv-loop : tie.InvT-loop
 Inv-loop s at i₀ i = trimmed s at ≡ trimmed s i

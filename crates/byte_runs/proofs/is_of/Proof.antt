@@ -1,9 +1,9 @@
--- `token_ends::is_of` meets its contract: an arm for each class.
+-- `byte_runs::is_of` meets its contract: an arm for each class.
 -- Assumes nothing.
 use Rattle.ntriples.specs.Classes.{belongs}
 use borrow.Author.Needs.{needs}
-use Rattle.token_ends.proofs.is_of.Statement.{statement}
-use Rattle.token_ends.proofs.is_of.Tie as tie
+use Rattle.byte_runs.proofs.is_of.Statement.{statement}
+use Rattle.byte_runs.proofs.is_of.Tie as tie
 
 enum-told : tie.Need-enum-told
 enum-told c = search needs

@@ -1,4 +1,4 @@
--- `token_ends::run_end` meets its contract. The loop's invariant: the run from the start ends where the run from i does.
+-- `byte_runs::run_end` meets its contract. The loop's invariant: the run from the start ends where the run from i does.
 -- Assumes nothing.
 use mathlib.Core.Path.{_≡_, refl, sym, ap, _∙_}
 use Prim.Native.Nat.{_-_}
@@ -10,8 +10,8 @@ use denote.Ref.{now}
 use Rattle.ntriples.specs.Classes.{belongs}
 use Rattle.ntriples.specs.Lexed.{runEnd}
 use Rattle.ntriples.proofs.Lexed.{any-default, run-over, run-stops, run-goes-on}
-use Rattle.token_ends.proofs.run_end.Statement.{statement}
-use Rattle.token_ends.proofs.run_end.Tie as tie
+use Rattle.byte_runs.proofs.run_end.Statement.{statement}
+use Rattle.byte_runs.proofs.run_end.Tie as tie
 
 abbrev Inv-loop : tie.InvT-loop
 Inv-loop c s at i₀ i = runEnd c s at ≡ runEnd c s i
