@@ -39,9 +39,9 @@ fn show(a: Answer) {
 fn fact_put(input: &[u8], at: usize) -> Fact
     requires { ⌜ at + 15 ≤ length (now input) ⌝ }
 {
-    let subject = field_reader::number_at(input, at);
-    let predicate = field_reader::number_at(input, at + 5);
-    let object = field_reader::number_at(input, at + 10);
+    let subject = digit_reader::number_at(input, at);
+    let predicate = digit_reader::number_at(input, at + 5);
+    let object = digit_reader::number_at(input, at + 10);
     Fact {
         subject: subject,
         predicate: predicate,
@@ -55,16 +55,16 @@ fn run_case(input: &[u8], at: usize) -> usize
     ensures { λ r. ⌜ (at < r) × (r ≤ length (now (input .entry))) ⌝ }
 {
     let end = input.len();
-    if !field_reader::is_laid_out(HEAD_FIELDS, input, at) {
+    if !line_layout::is_laid_out(HEAD_FIELDS, input, at) {
         return end;
     }
     let table = at + HEAD_BYTES;
-    let table_bytes = field_reader::number_at(input, at) as usize;
+    let table_bytes = digit_reader::number_at(input, at) as usize;
     if end - table < table_bytes {
         return end;
     }
     let derivation = table + table_bytes;
-    let derivation_bytes = field_reader::number_at(input, at + 5) as usize;
+    let derivation_bytes = digit_reader::number_at(input, at + 5) as usize;
     if end - derivation < derivation_bytes {
         return end;
     }

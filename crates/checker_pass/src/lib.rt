@@ -27,7 +27,7 @@ fn scan_layout(derivation: &[u8], from: usize, n: usize) -> Scan
 {
     let mut i = from;
     while i < n {
-        if !field_reader::is_laid_out(LINE_FIELDS, derivation, LINE_BYTES * i) {
+        if !line_layout::is_laid_out(LINE_FIELDS, derivation, LINE_BYTES * i) {
             return Scan::Stops(Refusal::Form, (i + 1) as u32);
         }
         i += 1;

@@ -33,9 +33,9 @@ pub fn fact_at(bytes: &[u8], i: usize) -> Fact
     ensures { λ r. ⌜ r ≡ lineAt (now (bytes .entry)) i .fact ⌝ }
 {
     let at = LINE_BYTES * i;
-    let subject = field_reader::number_at(bytes, at + 15);
-    let predicate = field_reader::number_at(bytes, at + 20);
-    let object = field_reader::number_at(bytes, at + 25);
+    let subject = digit_reader::number_at(bytes, at + 15);
+    let predicate = digit_reader::number_at(bytes, at + 20);
+    let object = digit_reader::number_at(bytes, at + 25);
     Fact {
         subject: subject,
         predicate: predicate,

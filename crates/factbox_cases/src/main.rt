@@ -30,7 +30,7 @@ fn run_next() -> bool {
     if io::read_full(STDIN_FILENO, &mut header) < HEADER {
         return false;
     }
-    let n = field_reader::number_at(&header, 0) as usize;
+    let n = digit_reader::number_at(&header, 0) as usize;
     let mut input = input_space();
     if INPUT_SPACE < n {
         return false;

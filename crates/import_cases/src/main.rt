@@ -121,13 +121,13 @@ fn run_case(input: &[u8], at: usize) -> usize
     ensures { λ r. ⌜ (at < r) × (r ≤ length (now (input .entry))) ⌝ }
 {
     let end = input.len();
-    if !field_reader::is_laid_out(FIELDS, input, at) {
+    if !line_layout::is_laid_out(FIELDS, input, at) {
         return end;
     }
-    let byte = field_reader::number_at(input, at);
-    let times = field_reader::number_at(input, at + 5) as usize;
-    let follow = field_reader::number_at(input, at + 10) as usize;
-    let room = field_reader::number_at(input, at + 15) as usize;
+    let byte = digit_reader::number_at(input, at);
+    let times = digit_reader::number_at(input, at + 5) as usize;
+    let follow = digit_reader::number_at(input, at + 10) as usize;
+    let room = digit_reader::number_at(input, at + 15) as usize;
     let from = at + CASE_BYTES;
     if end - from < follow {
         return end;

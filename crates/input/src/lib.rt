@@ -22,10 +22,10 @@ fn is_zero_line(input: &[u8], at: usize) -> bool
     requires { ⌜ at + 16 ≤ length (now input) ⌝ }
     ensures { λ r. ⌜ r ≡ isZeroLine (now (input .entry)) at ⌝ }
 {
-    field_reader::is_laid_out(FIELDS, input, at)
-        & (field_reader::number_at(input, at) == 0)
-        & (field_reader::number_at(input, at + 5) == 0)
-        & (field_reader::number_at(input, at + 10) == 0)
+    line_layout::is_laid_out(FIELDS, input, at)
+        & (digit_reader::number_at(input, at) == 0)
+        & (digit_reader::number_at(input, at + 5) == 0)
+        & (digit_reader::number_at(input, at + 10) == 0)
 }
 
 // The bytes behind a table of so many bytes and its zero line.
@@ -50,7 +50,7 @@ fn are_laid_out(input: &[u8], from: usize, n: usize) -> bool
     let mut i = 0;
     let mut at = from;
     while i < n {
-        if !field_reader::is_laid_out(QUESTION_FIELDS, input, at) {
+        if !line_layout::is_laid_out(QUESTION_FIELDS, input, at) {
             return false;
         }
         at += QUESTION_BYTES;
@@ -103,10 +103,10 @@ pub fn question_at(input: &[u8], at: usize) -> Query
     requires { ⌜ at + 21 ≤ length (now input) ⌝ }
     ensures { λ r. ⌜ r ≡ questionAt (now (input .entry)) at ⌝ }
 {
-    let subject = field_reader::number_at(input, at);
-    let predicate = field_reader::number_at(input, at + 5);
-    let object = field_reader::number_at(input, at + 10);
-    let limit = field_reader::number_at(input, at + 15);
+    let subject = digit_reader::number_at(input, at);
+    let predicate = digit_reader::number_at(input, at + 5);
+    let object = digit_reader::number_at(input, at + 10);
+    let limit = digit_reader::number_at(input, at + 15);
     let f = Fact {
         subject: subject,
         predicate: predicate,

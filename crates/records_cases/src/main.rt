@@ -66,9 +66,9 @@ fn read_some(bytes: &[u8], lent: usize, mut facts: [Fact; RECORDS]) -> Filled
 fn fact_at(table: &[u8], at: usize) -> Fact
     requires { ⌜ at + 15 ≤ length (now table) ⌝ }
 {
-    let subject = field_reader::number_at(table, at);
-    let predicate = field_reader::number_at(table, at + 5);
-    let object = field_reader::number_at(table, at + 10);
+    let subject = digit_reader::number_at(table, at);
+    let predicate = digit_reader::number_at(table, at + 5);
+    let object = digit_reader::number_at(table, at + 10);
     Fact {
         subject: subject,
         predicate: predicate,
@@ -134,15 +134,15 @@ fn run_case(input: &[u8], at: usize) -> usize
     ensures { λ r. ⌜ (at < r) × (r ≤ length (now (input .entry))) ⌝ }
 {
     let end = input.len();
-    if !field_reader::is_laid_out(HEAD_FIELDS, input, at) {
+    if !line_layout::is_laid_out(HEAD_FIELDS, input, at) {
         return end;
     }
     let table = at + HEAD_BYTES;
-    let table_bytes = field_reader::number_at(input, at) as usize;
+    let table_bytes = digit_reader::number_at(input, at) as usize;
     if end - table < table_bytes {
         return end;
     }
-    let lent = field_reader::number_at(input, at + 5) as usize;
+    let lent = digit_reader::number_at(input, at + 5) as usize;
     if RECORDS < lent {
         return end;
     }

@@ -139,8 +139,8 @@ fn read_case(table: &[u8], room: usize)
 fn row_number(lines: &[u8], at: usize) -> u32
     requires { ⌜ at + 11 ≤ length (now lines) ⌝ }
 {
-    let high = field_reader::number_at(lines, at) as u64;
-    let low = field_reader::number_at(lines, at + 5) as u64;
+    let high = digit_reader::number_at(lines, at) as u64;
+    let low = digit_reader::number_at(lines, at + 5) as u64;
     let n = high * FIVE_DIGITS + low;
     if NUMBER_LAST < n {
         return 0;
@@ -190,13 +190,13 @@ fn run_case(input: &[u8], at: usize) -> usize
     ensures { λ r. ⌜ (at < r) × (r ≤ length (now (input .entry))) ⌝ }
 {
     let end = input.len();
-    if !field_reader::is_laid_out(FIELDS, input, at) {
+    if !line_layout::is_laid_out(FIELDS, input, at) {
         return end;
     }
-    let kind = field_reader::number_at(input, at);
-    let follow = field_reader::number_at(input, at + 5) as usize;
-    let room = field_reader::number_at(input, at + 10) as usize;
-    let size = field_reader::number_at(input, at + 15) as usize;
+    let kind = digit_reader::number_at(input, at);
+    let follow = digit_reader::number_at(input, at + 5) as usize;
+    let room = digit_reader::number_at(input, at + 10) as usize;
+    let size = digit_reader::number_at(input, at + 15) as usize;
     let from = at + CASE_BYTES;
     if end - from < follow {
         return end;

@@ -1,4 +1,4 @@
--- `field_reader::is_laid_out` meets its contract. The loop's invariant: what is laid out from the start is what the fields passed leave to be laid out.
+-- `line_layout::is_laid_out` meets its contract. The loop's invariant: what is laid out from the start is what the fields passed leave to be laid out.
 -- Assumes nothing.
 use mathlib.Core.Path.{_≡_, sym, _∙_}
 use Prim.Native.Nat.{_+_, _-_, _*_, _≤_}
@@ -8,8 +8,8 @@ use denote.Ref.{now}
 use Rattle.columns.specs.Lines.{laidOut}
 use Rattle.columns.proofs.Columns.{field-none, field-some}
 use Rattle.columns.proofs.Lines.{laidOut-next, laidOut-end}
-use Rattle.field_reader.proofs.is_laid_out.Statement.{statement}
-use Rattle.field_reader.proofs.is_laid_out.Tie as tie
+use Rattle.line_layout.proofs.is_laid_out.Statement.{statement}
+use Rattle.line_layout.proofs.is_laid_out.Tie as tie
 
 abbrev Inv-loop : tie.InvT-loop
 Inv-loop k s at i₀ here₀ i here = (i ≤ k) × (here ≡ at + 5 * i) × (laidOut k s at ≡ laidOut (k - i) s here)

@@ -1,9 +1,9 @@
--- `field_reader::number_at` meets its contract: the columns are joined from the left.
+-- `digit_reader::number_at` meets its contract: the columns are joined from the left.
 -- Assumes nothing.
 use borrow.Author.Needs.{needs}
 use Rattle.columns.specs.Fields.{numberAt}
-use Rattle.field_reader.proofs.number_at.Statement.{statement}
-use Rattle.field_reader.proofs.number_at.Tie as tie
+use Rattle.digit_reader.proofs.number_at.Statement.{statement}
+use Rattle.digit_reader.proofs.number_at.Tie as tie
 
 shared-slice-read-join : tie.Need-shared-slice-read-join
 shared-slice-read-join c = search needs
