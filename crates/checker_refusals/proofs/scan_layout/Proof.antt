@@ -1,4 +1,4 @@
--- `checker_pass::scan_layout` meets its contract. The loop's invariant: the scan goes on from the line reached.
+-- `checker_refusals::scan_layout` meets its contract. The loop's invariant: the scan goes on from the line reached.
 -- Assumes nothing.
 use mathlib.Core.Path.{_≡_, refl, sym, _∙_}
 use mathlib.Core.Bool.{true, false}
@@ -10,8 +10,8 @@ use Rattle.columns.specs.Lines.{laidOut}
 use Rattle.table.specs.Scans.{scan}
 use Rattle.table.proofs.Scans.{scan-on, scan-stop, scan-end}
 use Rattle.acceptance.specs.Check.{formVerdict}
-use Rattle.checker_pass.proofs.scan_layout.Statement.{statement}
-use Rattle.checker_pass.proofs.scan_layout.Tie as tie
+use Rattle.checker_refusals.proofs.scan_layout.Statement.{statement}
+use Rattle.checker_refusals.proofs.scan_layout.Tie as tie
 
 abbrev Inv-loop : tie.InvT-loop
 Inv-loop derivation from n i₀ i = (i ≤ n) × (scan (formVerdict derivation) from (n - from) ≡ scan (formVerdict derivation) i (n - i))

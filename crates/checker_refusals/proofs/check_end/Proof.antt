@@ -1,8 +1,8 @@
--- `checker_pass::check_end` meets its contract: the last line's fact is held against the fact put.
+-- `checker_refusals::check_end` meets its contract: the last line's fact is held against the fact put.
 -- Assumes nothing.
 use borrow.Author.Needs.{needs}
-use Rattle.checker_pass.proofs.check_end.Statement.{statement}
-use Rattle.checker_pass.proofs.check_end.Tie as tie
+use Rattle.checker_refusals.proofs.check_end.Statement.{statement}
+use Rattle.checker_refusals.proofs.check_end.Tie as tie
 
 is-same-requires : tie.Need-is-same-requires
 is-same-requires c κs = search needs

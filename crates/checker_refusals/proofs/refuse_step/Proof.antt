@@ -1,10 +1,10 @@
--- `checker_pass::refuse_step` meets its contract: 10 is answered where the scan of the later lines finds no 9.
+-- `checker_refusals::refuse_step` meets its contract: 10 is answered where the scan of the later lines finds no 9.
 -- Assumes nothing.
 use mathlib.Core.Path.{sym, _∙_}
 use borrow.Author.Needs.{needs}
 use Rattle.acceptance.specs.Check.{after}
-use Rattle.checker_pass.proofs.refuse_step.Statement.{statement}
-use Rattle.checker_pass.proofs.refuse_step.Tie as tie
+use Rattle.checker_refusals.proofs.refuse_step.Statement.{statement}
+use Rattle.checker_refusals.proofs.refuse_step.Tie as tie
 
 add-scan-layout : tie.Need-add-scan-layout
 add-scan-layout c = search needs
