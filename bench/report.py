@@ -287,10 +287,11 @@ def sections(whole, gap, texts, programs):
 
 
 def demand_worst(texts):
-    """Ends with status 1 where the import of some text takes too long, by instructions or by time."""
-    for (who, what), (ratio, family) in worst_texts(texts).items():
-        if who == "proved" and ratio > WORST_AIM:
-            sys.exit(f"report.py: by {what}, the import of \"{family}\" takes {ratio:.1f} times what a typical one takes; the aim is at most {WORST_AIM}")
+    """Ends with status 1 where the import of some text takes too many instructions. Its time is shown, and no limit: other work on the
+    machine can make one of two calls many times slower."""
+    ratio, family = worst_texts(texts)["proved", "instructions"]
+    if ratio > WORST_AIM:
+        sys.exit(f"report.py: the import of \"{family}\" takes {ratio:.1f} times the instructions of a typical one; the aim is at most {WORST_AIM}")
 
 
 def print_imports(bench):

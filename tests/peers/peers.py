@@ -120,12 +120,21 @@ def spaced(data):
     return re.sub(rb"(?m)^([ \t]*<[^>\n]*>)[ \t]*(<[^>\n]*>)[ \t]*", rb"\1 \2 ", data)
 
 
-# What a reader alone makes of a text that the grammar and the import take, and the same triples in a text that it does read.
+def without_zeros(triples):
+    """The triples with x for byte 0."""
+    return [tuple(tuple(part and part.replace("\0", "x") for part in term) for term in triple) for triple in triples]
+
+
+# What a reader alone makes of a text that the grammar and the import take, and the same triples in a text that it does read; for byte 0 in
+# a literal the triples change with the text.
 PECULIAR = [
     ("rapper", "takes a quote in a comment for the begin of a text, and leaves out the lines behind it without a word",
-     lambda data: with_comments(data, lambda comment: comment.translate({34: "x", 39: "x"}))),
-    ("serdi", "refuses byte 0 in a comment", lambda data: with_comments(data, lambda comment: comment.replace("\0", "x"))),
-    ("rdflib", "wants white space between subject, predicate and object", spaced),
+     lambda data: with_comments(data, lambda comment: comment.translate({34: "x", 39: "x"})), list),
+    ("rapper", "takes a backslash at the end of a comment to join the next line to it, which it leaves out without a word",
+     lambda data: with_comments(data, lambda comment: comment.translate({34: "x", 39: "x", 92: "x"})), list),
+    ("rapper", "ends a literal's text at byte 0", lambda data: data.replace(b"\0", b"x"), without_zeros),
+    ("serdi", "refuses byte 0 in a comment", lambda data: with_comments(data, lambda comment: comment.replace("\0", "x")), list),
+    ("rdflib", "wants white space between subject, predicate and object", spaced, list),
 ]
 
 
@@ -199,7 +208,7 @@ def hand_cases():
 def shared_cases():
     """The texts of crates/import_cases: a line of four fields (a byte, how often the text begins with it, more bytes, room), then those bytes. And
     the same with absolute IRIs for relative ones, which the other readers do not take."""
-    data, at, texts = CASES.read_bytes() if CASES.exists() else b"", 0, []
+    data, at, texts = CASES.read_bytes(), 0, []
     while at < len(data):
         fill, times, more, _ = (int(data[at + 5 * i:at + 5 * i + 5]) for i in range(4))
         texts.append(bytes([fill]) * times + data[at + 21:at + 21 + more])
@@ -251,16 +260,13 @@ class Comparison:
             found = read(data, self.folder)
             if found is not None and same(found) == same(triples):
                 continue
-            for who, how, change in PECULIAR:
+            for who, how, change, of in PECULIAR:
                 changed = change(data)
-                if who == name and changed != data and same(read(changed, self.folder) or []) == same(triples):
+                if who == name and changed != data and same(read(changed, self.folder) or []) == same(of(triples)):
                     self.note(f"{name} alone: {how}", data)
                     break
             else:
-                if name == "rapper" and b"\0" in data:
-                    self.note("rapper alone: ends a literal's text at byte 0", data)
-                else:
-                    self.faults.append(f"{name} reads another thing: {data!r}: {found}")
+                self.faults.append(f"{name} reads another thing: {data!r}: {found}")
 
     def put(self, data):
         strict = Reading(data)
