@@ -20,6 +20,7 @@
 #include <getopt.h>
 #include <stdlib.h>
 #include <string.h>
+#include <unistd.h>
 
 const char PROGRAM[] = "import";
 
@@ -206,16 +207,18 @@ static int finish(const char *table_file, const char *names_file, size_t facts) 
 }
 
 /* Two files that may not be one: NULL, or what they are. */
-static const char *same_files(const char *triples, const char *table_file, const char *names_file) {
-    if (table_file && names_file && is_same_file(table_file, names_file)) return "the table and the names";
-    if (triples && table_file && is_same_file(triples, table_file)) return "the triples and the table";
-    return triples && names_file && is_same_file(triples, names_file) ? "the triples and the names" : NULL;
+static const char *same_files(const char *triples_file, const char *table_file, const char *names_file) {
+    file triples = {triples_file, STDIN_FILENO}, made = {table_file, STDOUT_FILENO}, names = {names_file, -1};
+    if (is_same_file(made, names)) return "the table and the names";
+    if (is_same_file(triples, made)) return "the triples and the table";
+    return is_same_file(triples, names) ? "the triples and the names" : NULL;
 }
 
 int main(int argc, char **argv) {
     static const struct option options[] = {{"names", required_argument, NULL, 'n'}, {NULL, 0, NULL, 0}};
     const char *table_file = NULL, *names_file = NULL;
     int wrong = asks_for_help(argc, argv);
+    outlive_readers();
     for (int option; !wrong && (option = getopt_long(argc, argv, "o:", options, NULL)) != -1;) {
         if (option == 'o') table_file = optarg;
         else if (option == 'n') names_file = optarg;

@@ -5,6 +5,7 @@
 
 #include <errno.h>
 #include <limits.h>
+#include <signal.h>
 #include <stdio.h>
 #include <stdlib.h>
 #include <string.h>
@@ -29,6 +30,8 @@ typedef struct {
 
 static place places[OUTPUTS_MAX];
 
+void outlive_readers(void) { signal(SIGPIPE, SIG_IGN); }
+
 /* ---- names */
 
 /* What stands behind a name's last slash. */
@@ -47,15 +50,21 @@ static void put_directory(char *out, const char *name) {
 
 static int is_same(const struct stat *a, const struct stat *b) { return a->st_dev == b->st_dev && a->st_ino == b->st_ino; }
 
-int is_same_file(const char *a, const char *b) {
+/* Looks at a file; 0 if it is not there. A terminal or a pipe that is open twice is no file. */
+static int look(file f, struct stat *of) {
+    return f.name ? stat(f.name, of) == 0 : fstat(f.open, of) == 0 && S_ISREG(of->st_mode);
+}
+
+int is_same_file(file a, file b) {
     char directory_a[NAME_ROOM], directory_b[NAME_ROOM];
     struct stat of_a, of_b;
-    int there_a = stat(a, &of_a) == 0, there_b = stat(b, &of_b) == 0;
-    if (strcmp(a, b) == 0) return 1;
+    int there_a = look(a, &of_a), there_b = look(b, &of_b);
     if (there_a || there_b) return there_a && there_b && is_same(&of_a, &of_b);
-    put_directory(directory_a, a);
-    put_directory(directory_b, b);
-    if (strcmp(last_part(a), last_part(b)) != 0) return 0;
+    if (!a.name || !b.name) return 0;
+    if (strcmp(a.name, b.name) == 0) return 1;
+    put_directory(directory_a, a.name);
+    put_directory(directory_b, b.name);
+    if (strcmp(last_part(a.name), last_part(b.name)) != 0) return 0;
     return stat(directory_a, &of_a) == 0 && stat(directory_b, &of_b) == 0 && is_same(&of_a, &of_b);
 }
 

@@ -11,6 +11,9 @@ typedef struct {
     size_t len;
 } output;
 
+/* Lets the program outlive a pipe that nobody reads: writing to it then fails as writing elsewhere does. To be called first. */
+void outlive_readers(void);
+
 /* How many can be written at once. */
 enum { OUTPUTS_MAX = 2 };
 
@@ -20,7 +23,13 @@ enum { OUTPUTS_MAX = 2 };
  * beside, and the old files are as they were; if one can't even be put back, standard error says where it is kept. */
 void put_out(const output *outputs, size_t count);
 
-/* Whether two names are of one file, be it there or not. */
-int is_same_file(const char *a, const char *b);
+/* A file by its name, or where that is NULL by the descriptor that it is open as. */
+typedef struct {
+    const char *name;
+    int open;
+} file;
+
+/* Whether two files are one: named ones be they there or not, open ones where they are regular files. */
+int is_same_file(file a, file b);
 
 #endif

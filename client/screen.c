@@ -20,6 +20,7 @@
 #include "fault.h"
 #include "lines.h"
 #include "names.h"
+#include "output.h"
 #include "shown.h"
 #include "words.h"
 
@@ -247,6 +248,7 @@ int main(int argc, char **argv) {
     static const struct option options[] = {{"names", required_argument, NULL, 'n'}, {NULL, 0, NULL, 0}};
     const char *names = NULL;
     int checking = 0, wrong = asks_for_help(argc, argv);
+    outlive_readers();
     for (int option; !wrong && (option = getopt_long(argc, argv, "+c", options, NULL)) != -1;) {
         if (option == 'c') checking = 1;
         else if (option == 'n') names = optarg;

@@ -133,6 +133,7 @@ static size_t in_words(const char *name) {
 int main(int argc, char **argv) {
     const char *out = NULL;
     int reverse = 0, wrong = asks_for_help(argc, argv);
+    outlive_readers();
     for (int option; !wrong && (option = getopt(argc, argv, "wo:")) != -1;) {
         if (option == 'w') reverse = 1;
         else if (option == 'o') out = optarg;

@@ -34,6 +34,14 @@ expect() {
     diff "$expected" "$work/all" || stop "$*: writes something else than $expected"
 }
 
+# unread COMMAND..: where nobody reads what it writes, it says so and ends with status 2
+unread() {
+    [ -p "$work/go" ] || mkfifo "$work/go"
+    run 0 sh -c '{ read -r go <"$0/go"; found=0; "$@" || found=$?; echo $found >"$0/found"; } | { exec <&-; echo >"$0/go"; }' "$work" "$@"
+    [ "$(cat "$work/found")" = 2 ] && grep -q "^[a-z]*: standard output: can't be written\$" "$work/err" ||
+        stop "$*: status $(cat "$work/found") where nobody reads"
+}
+
 # nothing_beside: no program has left anything beside the files in $work
 nothing_beside() { [ -z "$(find "$work" -name '.[a-z]*.??????*')" ]; }
 
