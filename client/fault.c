@@ -6,6 +6,7 @@
 #include "factbox.h"
 #include "lines.h"
 #include "shown.h"
+#include "triples.h"
 #include "words.h"
 
 #include <string.h>
@@ -18,11 +19,12 @@ typedef struct {
     size_t len;
     unsigned number;
     int ended;              /* it has a line end */
+    size_t left;            /* the file's bytes from here on */
 } line;
 
 static line line_at(const uint8_t *table, size_t len, size_t start, unsigned number) {
     const char *text = (const char *)table + start, *end = memchr(text, '\n', len - start);
-    return (line){text, end ? (size_t)(end - text) : len - start, number, end != NULL};
+    return (line){text, end ? (size_t)(end - text) : len - start, number, end != NULL, len - start};
 }
 
 /* The first line that is not 16 bytes long, or the first above 1,024. */
@@ -109,7 +111,7 @@ static const char *length_cause(const line *r, size_t *column) {
     uint32_t fact[3];
     size_t len = trimmed(r->text, r->len);
     const char *why = line_fields(r->text, len, 3, fact);
-    int laid_out = len == COLUMNS && wrong_column(&(line){r->text, len, r->number, 1}) > COLUMNS;
+    int laid_out = len == COLUMNS && wrong_column(&(line){r->text, len, r->number, 1, r->left}) > COLUMNS;
     if (laid_out && len < r->len) return "spaces at the end of the line";
     if (laid_out) return "the last line has no line end";
     int wide = !why && too_wide(fact);
@@ -117,6 +119,10 @@ static const char *length_cause(const line *r, size_t *column) {
     if (!why) why = wide ? "a number has more than five digits" : "the numbers are not padded to five columns each";
     snprintf(text, sizeof text, "%s%s", why, r->ended ? "" : "; the file ends within the line");
     return text;
+}
+
+void advise_import(FILE *out, const char *name) {
+    fprintf(out, "  this looks like N-Triples: `import -o NEW%s%s` makes a table of it\n", name ? " " : "", name ? shown_file(name) : "");
 }
 
 /* What `table` makes of a line that it can read: which numbers of it may not stand so, and that such lines are taken. */
@@ -151,7 +157,8 @@ static void explain_layout(FILE *out, const char *name, const line *r) {
     if (!why) why = r->len == COLUMNS && r->ended ? field_cause(r, column) : length_cause(r, &column);
     if (column > 0) fprintf(out, "  column %zu: %s\n", column, why);
     else fprintf(out, "  %s\n", why);
-    explain_mending(out, name, r);
+    if (looks_like_triples(r->text, r->left)) advise_import(out, name);
+    else explain_mending(out, name, r);
 }
 
 /* Refusal 6: whether the two lines are the same, and where not. */

@@ -13,6 +13,9 @@ enum { TABLE_LOOK = 1 << 20 };
  * before it), the column or the fields, and the likely cause. */
 void explain_table(FILE *out, const char *name, const uint8_t *table, size_t len, uint64_t result);
 
+/* Says what to do with a file of N-Triples, given by its name, or NULL for standard input, where no such text is taken. */
+void advise_import(FILE *out, const char *name);
+
 /* The refusal 3, 4, 5 or 12 that the fact by itself gets from the box; 0 if none. */
 unsigned fact_refusal(const uint32_t *fact);
 

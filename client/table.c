@@ -14,6 +14,7 @@
 #include "lines.h"
 #include "output.h"
 #include "shown.h"
+#include "triples.h"
 #include "words.h"
 
 #include <stdlib.h>
@@ -85,12 +86,23 @@ static void insert(const entry *e) {
     count++;
 }
 
+/* Says what is wrong with a line. Of a file of N-Triples only the first such line is named, with what to do. */
+static void complain_of(const lines *in, const char *what) {
+    static const char *told;
+    int triples = looks_like_triples(in->text, in->len < TEXT_MAX ? in->len : TEXT_MAX);
+    if (triples && told == in->name) return;
+    complain(in->name, in->line, what);
+    if (!triples) return;
+    told = in->name;
+    advise_import(stderr, in->file == stdin ? NULL : in->name);
+}
+
 /* Takes every line of a file. The box itself judges each fact. */
 static void take(lines in) {
     while (next_line(&in)) {
         entry e = {.name = in.name, .line = in.line};
         const char *wrong = line_fields(in.text, in.len, 3, e.fact);
-        if (wrong) complain(in.name, in.line, wrong);
+        if (wrong) complain_of(&in, wrong);
         else if (fact_refusal(e.fact)) complain_refused(&e, fact_refusal(e.fact));
         else insert(&e);
     }

@@ -45,6 +45,9 @@ unread() {
 # nothing_beside: no program has left anything beside the files in $work
 nothing_beside() { [ -z "$(find "$work" -name '.[a-z]*.??????*')" ]; }
 
+# what is advised for a file of N-Triples
+advised() { echo "this looks like N-Triples: \`import -o NEW $1\` makes a table of it"; }
+
 # says FILE TEXT: one line of it has exactly this text, spaces before it apart
 says() {
     sed 's/^ *//' "$1" | grep -Fxq -- "$2" || { cat "$1"; stop "does not say: $2"; }

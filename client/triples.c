@@ -191,6 +191,13 @@ statement read_statement(const char *text, size_t len) {
     return s;
 }
 
+int looks_like_triples(const char *text, size_t len) {
+    size_t at = mark_length(text, len);
+    for (int comment = 0; at < len && (comment || memchr(" \t\r\n#", text[at], 5)); at++)
+        comment = text[at] == '#' || (comment && text[at] != '\n');
+    return at < len && (text[at] == '<' || (len - at >= 2 && memcmp(text + at, "_:", 2) == 0));
+}
+
 size_t token_length(const char *text, size_t len) {
     statement s;
     reader r = {text, len, 0, &s};

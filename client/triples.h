@@ -23,6 +23,9 @@ typedef struct {
 /* Reads a line, without its line end. */
 statement read_statement(const char *text, size_t len);
 
+/* Whether a text is probably N-Triples: its first line that is neither blank nor a comment begins with < or _: */
+int looks_like_triples(const char *text, size_t len);
+
 /* The length of the token that begins a text, if it is an IRI or a literal; 0 if not. */
 size_t token_length(const char *text, size_t len);
 
