@@ -105,13 +105,26 @@ static const char *part_fault(const statement *s, size_t part) {
     }
 }
 
+/* Says how many lines below this one break for the same reason, if any do. */
+static void count_more(line l, const char *why) {
+    size_t more = 0;
+    while (go_on(&l)) more += read_statement(l.text, l.len).why == why;
+    if (more > 0) fprintf(stderr, "  %zu more line%s end%s so\n", more, plural(more), more == 1 ? "s" : "");
+}
+
+/* Says that the box refuses a line. */
+static void name_line(const line *l, unsigned number, size_t place) {
+    fprintf(stderr, "%s:%u: %u %s\n", shown_file(text_name), l->number, number, refusal_words(number));
+    show_line(l, place);
+}
+
 /* Says that the box refuses a line, and why, if it is read so here too. */
 static void complain(const line *l, const statement *s, unsigned number) {
     const char *why;
     int agreed = s->refusal == number, torn = agreed && number == FACTBOX_STATEMENT;
-    fprintf(stderr, "%s:%u: %u %s\n", shown_file(text_name), l->number, number, refusal_words(number));
-    show_line(l, torn ? s->at : 0);
+    name_line(l, number, torn ? s->at : 0);
     if (torn) fprintf(stderr, "  column %zu: %s\n", column(l, s->at), s->why);
+    if (torn && s->of_all) count_more(*l, s->why);
     for (size_t part = 0; agreed && s->said && part < 3; part++)
         if ((why = part_fault(s, part))) fprintf(stderr, "  the %s, %s, %s\n", FIELD_NAMES[part], token_words(s->part[part]), why);
 }
@@ -119,13 +132,33 @@ static void complain(const line *l, const statement *s, unsigned number) {
 /* Whether a refusal is for the form of lines, which all of them must pass before any is tried for what it says. */
 static int is_of_form(unsigned refusal) { return refusal == FACTBOX_STATEMENT || refusal == FACTBOX_UNKNOWN; }
 
-/* Names the line that the box refused, and those below it that it would refuse next. */
+/* Why no line of the text can be read: it is not in UTF-8. NULL if it probably is. */
+static const char *coding_fault(void) {
+    int marked = text_len >= 2 && (!memcmp(text, "\xff\xfe", 2) || !memcmp(text, "\xfe\xff", 2));
+    if (marked) return "the file is UTF-16 or UTF-32: save it as UTF-8";
+    return memchr(text, '\0', text_len < 2 ? text_len : 2) ? "byte 0: the file is probably UTF-16 or UTF-32; save it as UTF-8" : NULL;
+}
+
+/* Names the line that the box refused, with a reason that holds of the whole text. */
+static int refuse_coding(unsigned number, unsigned first, const char *why) {
+    line l = {.number = 0};
+    while (l.number < first && go_on(&l)) {}
+    name_line(&l, number, 0);
+    fprintf(stderr, "  %s\n", why);
+    return 1;
+}
+
+/* Names the line that the box refused, and those below it that it would refuse next; of those that break as all lines do, one. */
 static int refuse_lines(uint64_t result) {
     unsigned faults = 0, number = factbox_number(result), first = factbox_place(result);
+    const char *coding = number == FACTBOX_STATEMENT ? coding_fault() : NULL;
+    int told = 0;
+    if (coding) return refuse_coding(number, first, coding);
     for (line l = {.number = 0}; faults <= FAULTS_SHOWN && go_on(&l);) {
         statement s = read_statement(l.text, l.len);
         int next = s.refusal && is_of_form(s.refusal) == is_of_form(number);
-        if (l.number < first || (l.number > first && !next)) continue;
+        if (l.number < first || (l.number > first && !next) || (told && s.of_all)) continue;
+        if (s.of_all) told = 1;
         if (++faults <= FAULTS_SHOWN) complain(&l, &s, l.number == first ? number : s.refusal);
     }
     if (faults > FAULTS_SHOWN) fprintf(stderr, "import: more than %d lines can't be taken, the first are named\n", FAULTS_SHOWN);
@@ -165,7 +198,7 @@ static int refuse(uint64_t result) {
     unsigned number = factbox_number(result);
     if (factbox_place(result) > 0) return refuse_lines(result);
     fprintf(stderr, "%s: %u %s\n", shown_file(text_name), number, text_refusal(number));
-    if (number == FACTBOX_STATEMENT) fprintf(stderr, "  the text has more than 65,536 bytes\n");
+    if (number == FACTBOX_STATEMENT) fprintf(stderr, "  the text has more than 65,536 bytes: leave statements out\n");
     else fprintf(stderr, "  the text has %zu different statements\n", sort(said, read_all()));
     return 1;
 }

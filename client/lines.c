@@ -57,7 +57,7 @@ static int read_line(lines *in) {
         if (in->len < TEXT_MAX) in->text[in->len] = (char)c;
         if (++in->len > ENDLESS) fail("a line has no end", in->name);
     }
-    if (ferror(in->file)) fail("can't be read", in->name);
+    if (ferror(in->file)) fail(strerror(errno), in->name);
     in->line++;
     return c != EOF || in->len > 0;
 }
@@ -157,7 +157,7 @@ const char *line_fields(const char *text, size_t len, size_t count, uint32_t *fi
 size_t load(const char *name, uint8_t *bytes, size_t most) {
     FILE *file = name ? open_file(name) : stdin;
     size_t len = fread(bytes, 1, most, file);
-    if (ferror(file)) fail("can't be read", name ? name : "standard input");
+    if (ferror(file)) fail(strerror(errno), name ? name : "standard input");
     if (name) fclose(file);
     return len;
 }

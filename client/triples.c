@@ -17,6 +17,7 @@ enum { VOCABULARY_LAST = 5 };
 static const char ESCAPE[] = "a backslash: no escapes are taken, so put the character itself";
 static const char BLANK_NODE[] = "a blank node is _: and a label of letters, digits, _ - . or :";
 static const char TAG[] = "a language tag is @ and letters, as @en, then perhaps parts of letters and digits behind hyphens, as @en-GB or @de-1996";
+static const char WINDOWS[] = "lines end with byte 13 and 10 (Windows): take byte 13 out, as by tr -d '\\r' <FILE >NEW";
 static const char DATATYPE[] = "a datatype is ^^ and an IRI in < >";
 
 /* A line, how far it is read, and what is found. */
@@ -162,11 +163,10 @@ static int read_triple(reader *r) {
 /* A fault of the whole line: NULL if there is none, or what it is and where. */
 static const char *line_fault(const char *text, size_t len, size_t *at) {
     const char *r = memchr(text, '\r', len);
-    if (mark_length(text, len)) return "a byte order mark: the line begins behind it";
-    if (len >= 2 && (!memcmp(text, "\xff\xfe", 2) || !memcmp(text, "\xfe\xff", 2))) return "the file is UTF-16 text: the import takes UTF-8";
+    if (mark_length(text, len)) return "a byte order mark: save the file as UTF-8 without it";
     if (!r) return NULL;
     *at = (size_t)(r - text);
-    return *at == len - 1 ? "a carriage return before the line end (Windows line ends)" : "a carriage return: a line ends with a line feed";
+    return *at == len - 1 ? WINDOWS : "a carriage return: a line ends with a line feed";
 }
 
 /* 14, 5 or 12, which a statement gets. */
@@ -184,6 +184,7 @@ statement read_statement(const char *text, size_t len) {
     if (!s.why && is_over(&r)) return s;
     if (s.why || !read_triple(&r)) {
         s.refusal = FACTBOX_STATEMENT;
+        s.of_all = s.why == WINDOWS;
         return s;
     }
     s.said = 1;

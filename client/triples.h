@@ -18,6 +18,7 @@ typedef struct {
     token part[3];          /* subject, predicate, object, of 14, 5, 12 and 0 */
     size_t at;              /* of 13: the place where the line breaks, from 0 */
     const char *why;        /* of 13: why */
+    int of_all;             /* of 13: the other lines of the file probably break for the same reason */
 } statement;
 
 /* Reads a line, without its line end. */
