@@ -52,8 +52,7 @@ static size_t wrong_column(const line *r) {
 static const char *byte_words(const line *r, size_t at) {
     switch (r->text[at]) {
     case '#': return trimmed(r->text, r->len) == 0 ? "a comment: a table has facts only" : "a comment behind the fact";
-    case '\r': return r->ended && at == r->len - 1 ? "a carriage return before the line end (Windows line ends)"
-                                                   : "a carriage return: a line ends with a line feed";
+    case '\r': return r->ended && at == r->len - 1 ? WINDOWS_END : "a carriage return: a line ends with a line feed";
     case '\t': return "a tab: fields are padded with spaces";
     case ',':
     case ';': return "a comma or semicolon: fields are padded with spaces";

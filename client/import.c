@@ -1,6 +1,6 @@
 /* Makes a table for the fact box from N-Triples, as the planning office exports them.
  *
- *   import [-o TABLE] [--names NAMES] [TRIPLES]     from a file or from standard input
+ *   import [-o TABLE] [--names NAMES] [TRIPLES]     from a file, or from standard input (no TRIPLES, or -)
  *
  * What TRIPLES may have, and how its tokens are numbered, is said in factbox.h. The table goes to standard output, or to the file
  * named with -o; which number stands for which token goes to NAMES, as names.h says. Both are worked out apart: the table by the
@@ -196,9 +196,11 @@ static size_t read_all(void) {
 /* Says why the box refuses the text. */
 static int refuse(uint64_t result) {
     unsigned number = factbox_number(result);
+    const char *large = coding_fault();
     if (factbox_place(result) > 0) return refuse_lines(result);
+    if (!large) large = "the text has more than 65,536 bytes: leave statements out";
     fprintf(stderr, "%s: %u %s\n", shown_file(text_name), number, text_refusal(number));
-    if (number == FACTBOX_STATEMENT) fprintf(stderr, "  the text has more than 65,536 bytes: leave statements out\n");
+    if (number == FACTBOX_STATEMENT) fprintf(stderr, "  %s\n", large);
     else fprintf(stderr, "  the text has %zu different statements\n", sort(said, read_all()));
     return 1;
 }
@@ -258,13 +260,14 @@ int main(int argc, char **argv) {
         else wrong = 1;
     }
     if (wrong || argc - optind > 1) {
-        fputs("usage: import [-o TABLE] [--names NAMES] [TRIPLES]\n", stderr);
+        fputs("usage: import [-o TABLE] [--names NAMES] [TRIPLES]     (no TRIPLES, or -: standard input)\n", stderr);
         return 2;
     }
-    const char *same = same_files(argv[optind], table_file, names_file);
+    const char *triples = optind < argc && strcmp(argv[optind], "-") != 0 ? argv[optind] : NULL;
+    const char *same = same_files(triples, table_file, names_file);
     if (same) fail("can't be in one file", same);
-    text_name = optind < argc ? argv[optind] : "standard input";
-    text_len = load(argv[optind], text, sizeof text);
+    text_name = triples ? triples : "standard input";
+    text_len = load(triples, text, sizeof text);
     uint64_t result = factbox_import(text, text_len, table, sizeof table);
     return factbox_number(result) == FACTBOX_DONE ? finish(table_file, names_file, factbox_count(result)) : refuse(result);
 }

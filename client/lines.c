@@ -10,6 +10,8 @@
 
 enum { FACT_FIELDS = 3, QUESTION_FIELDS = 4, PREDICATE = 1 };
 
+const char WINDOWS_END[] = "a carriage return before the line end (Windows line ends)";
+
 /* What went wrong last. */
 static char wrong[400];
 

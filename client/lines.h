@@ -44,6 +44,9 @@ size_t trimmed(const char *text, size_t len);
 /* The length of the byte order mark at the front of a text, 0 or 3. */
 size_t mark_length(const char *text, size_t len);
 
+/* What is wrong with a line that ends as in Windows, where it may not. */
+extern const char WINDOWS_END[];
+
 int is_digit(char c);
 
 /* A decimal number of 32 bits: NULL, or why it is none. */

@@ -70,6 +70,7 @@ static const char *take_name(const char *text, size_t len, unsigned line) {
     size_t digits = space ? (size_t)(space - text) : len, rest = space ? len - digits - 1 : 0;
     uint32_t number = 0, given;
     token t = {space ? space + 1 : "", rest};
+    if (len > 0 && text[len - 1] == '\r') return WINDOWS_END;
     if (decimal(text, digits, &number) || *text == '0') return "the line has no number and token";
     if (rest == 0 || token_length(t.text, rest) != rest) return "behind the number stands neither an IRI in < > nor a literal in quotes";
     if (line > VOCABULARY_LAST && (vocabulary_number(t) || (!is_literal_token(t) && counts[1] > 0))) return "the line is out of order";

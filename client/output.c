@@ -94,13 +94,24 @@ static const char *find_place(const output *o, place *p) {
     return NULL;
 }
 
+/* Why no directory can be made beside a file: where an old one is, it may be writable itself. */
+static const char *no_beside(const place *p) {
+    static char why[5 * NAME_ROOM];
+    char directory[NAME_ROOM];
+    if (!p->there) return strerror(errno);
+    int number = errno;
+    put_directory(directory, p->name);
+    snprintf(why, sizeof why, "the new file is first written beside it, in %s: %s", shown_file(directory), strerror(number));
+    return why;
+}
+
 /* Makes the directory beside a file: NULL, or why that fails. */
 static const char *make_beside(place *p) {
     char name[NAME_ROOM];
     put_directory(name, p->name);
     if (strlen(name) + strlen(PROGRAM) + sizeof "..XXXXXX/new" > sizeof name) return "the name is too long";
     sprintf(name + strlen(name), ".%s.XXXXXX", PROGRAM);
-    if (!mkdtemp(name)) return strerror(errno);
+    if (!mkdtemp(name)) return no_beside(p);
     strcpy(p->beside, name);
     strcat(strcpy(p->fresh, name), "/new");
     strcat(strcpy(p->held, name), "/old");

@@ -244,6 +244,21 @@ static int try_names(const char *name) {
     return REFUSED;
 }
 
+/* Whether an option stands among the files, behind the first. */
+static int has_option(char **files, int count) {
+    for (int i = 1; i < count; i++)
+        if (strcmp(files[i], "-c") == 0 || strncmp(files[i], "--names", 7) == 0) return 1;
+    return 0;
+}
+
+/* Says how the program is used, and where an option stands behind TABLE that it is too late. */
+static int show_usage(char **files, int count) {
+    if (has_option(files, count)) fputs("screen: options stand before TABLE\n", stderr);
+    fputs("usage: screen [--names NAMES] TABLE [QUESTIONS]\n"
+          "       screen [--names NAMES] -c TABLE DERIVATION SUBJECT PREDICATE OBJECT\n", stderr);
+    return FAILED;
+}
+
 int main(int argc, char **argv) {
     static const struct option options[] = {{"names", required_argument, NULL, 'n'}, {NULL, 0, NULL, 0}};
     const char *names = NULL;
@@ -256,11 +271,8 @@ int main(int argc, char **argv) {
     }
     char **files = argv + optind;
     int count = argc - optind;
-    if (wrong || (checking ? count != 5 : count != 1 && count != 2)) {
-        fputs("usage: screen [--names NAMES] TABLE [QUESTIONS]\n"
-              "       screen [--names NAMES] -c TABLE DERIVATION SUBJECT PREDICATE OBJECT\n", stderr);
-        return FAILED;
-    }
+    if (!checking && has_option(files, count)) wrong = 1;
+    if (wrong || (checking ? count != 5 : count != 1 && count != 2)) return show_usage(files, count);
     int status = try_table(files[0]);
     if (status == ANSWERED && names) status = try_names(names);
     flush();

@@ -1,7 +1,8 @@
 /* An import that goes wrong, for the tests: the box's own, and then a change to its table. The variable WRONG says which: `object` puts
  * another object in the first fact, `fewer` leaves out the last fact, `more` adds one, `torn` spoils a column, `numbers` exchanges the
  * numbers 6 and 7. Or a call on files goes wrong: `rename` lets the second renaming fail, `renames` all but the first,
- * `link` every link and the third renaming, `place` every link and the second, `access` every question whether a file may be written. */
+ * `link` every link and the third renaming, `place` every link and the second, `access` every question whether a file may be written,
+ * `beside` every new directory. */
 #include "factbox.h"
 
 #include <errno.h>
@@ -13,6 +14,7 @@
 int wrong_rename(const char *from, const char *to);
 int wrong_link(const char *from, const char *to);
 int wrong_access(const char *name, int how);
+char *wrong_mkdtemp(char *name);
 
 uint64_t wrong_import(const uint8_t *text, size_t text_len, uint8_t *table, size_t table_len);
 
@@ -60,5 +62,7 @@ int wrong_rename(const char *from, const char *to) {
 }
 
 int wrong_link(const char *from, const char *to) { return is_wrong("link") || is_wrong("place") ? failed() : link(from, to); }
+
+char *wrong_mkdtemp(char *name) { return is_wrong("beside") && failed() ? NULL : mkdtemp(name); }
 
 int wrong_access(const char *name, int how) { return is_wrong("access") ? failed() : access(name, how); }
