@@ -5,7 +5,7 @@ report.py BENCH TUNED PROGRAM DIR: in DIR/PERFORMANCE.md, what stands between th
 where there is none); DIR/performance.svg is the plot. BENCH has the plain implementation, TUNED the one with the proved
 code's shortcuts. Instructions are callgrind's, and the same in every run; times are medians over interleaved pairs of calls.
 Families with a gap in the question are kept apart from those without, so that the means of the latter stay comparable. Ends with
-status 1 where the import of some text of 65,536 bytes takes more than ten times what a typical one takes.
+status 1 where the import of some text of 65,536 bytes takes more than ten times the instructions of a typical one.
 
 report.py import BENCH: prints what is measured of the import, with the same end.
 
