@@ -95,6 +95,11 @@ justified-below {before = before} wf h (by-rule {n} {i} {j} {p} {q} {r} e g s) =
     let b = factOn-within before j q g in
     (rule-below (s .gives), (omega arith, (omega arith, terms-below r (s .result))))
 
+-- the numbers of each line of a derivation of at most 2,047 lines have at most five digits
+pub derivation-below : {facts : List Fact} {t : Fact} {d : List Line} → ((f : Fact) → f ∈ facts → T (wellFormed f)) → length d ≤ 2047 → Derives Rule facts d t
+    → (i : ℕ) (z : Line) → i < length d → Below (lineNumbers (getD d i z))
+derivation-below {facts} {t} {d} wf few derives i z h = justified-below wf (rw length-take (omega arith)) (justify-at Rule facts d [] z (derives .lines) i h)
+
 -- ---- from the answer to the derivation
 
 after-accepted : (s : Scan) (a : Answer) (c : ℕ) → after s a ≡ Accepted c → ((m : ℕ) × (s ≡ Passes m)) × (a ≡ Accepted c)
@@ -166,7 +171,7 @@ lines-are facts t d wf pos few derives =
     let z = derivationLine 0 0 0 (fact 0 0 0) in
     let just : (i : ℕ) → i < n → Justified Rule facts (take i d) (getD d i z) = λ i h. justify-at Rule facts d [] z (derives .lines) i h in
     let back : (i : ℕ) → i < n → (laidOut 6 x (31 * i) ≡ true) × (lineAt x i ≡ getD d i z) =
-    λ i h. line-read-back d i z h (justified-below wf (rw length-take (omega arith)) (just i h)) in
+    λ i h. line-read-back d i z h (derivation-below wf few derives i z h) in
     let all : linesOf x n ≡ d = items-listed (lineAt x) d 0 z (λ j h. rw zero-add (back j h .1)) in
     let upto : (i : ℕ) → i < n → linesOf x i ≡ take i d = λ i h. sym (take-items (lineAt x) n 0 i (omega arith)) ∙ ap (take i) all in
     let steps : (i : ℕ) → i < n → justified facts (linesOf x i) (lineAt x i) ≡ true = λ i h. of-T _ (rw (upto i h, back i h .1) (justified-is (just i h))) in

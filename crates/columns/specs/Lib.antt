@@ -1,3 +1,4 @@
 pub mod Fields
 pub mod Columns
 pub mod Lines
+pub mod Digits

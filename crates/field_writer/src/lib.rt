@@ -9,8 +9,17 @@ ghost use lib.Seq.{sets};
 ghost use Rattle.columns.specs.Fields.{column, field};
 ghost use Rattle.columns.specs.Lines.{Below, line, width, over};
 
+// A tenth of a number below 262,144: 52,429 is a tenth of 524,288, rounded up. Of four divisions by 10 in a row the compiler makes
+// divisions by 100, 1,000 and 10,000 and compares with these; of this it makes a product and a shift.
+fn tenth(n: u64) -> u64
+    requires { ⌜ n < 262144 ⌝ }
+    ensures { λ r. ⌜ r ≡ n / 10 ⌝ }
+{
+    n * 52429 / 524288
+}
+
 // The byte in a column, where n is what the number has from that column leftwards, and left from the next.
-fn column_byte(n: u32, left: u32) -> u8
+fn column_byte(n: u64, left: u64) -> u8
     requires { ⌜ left ≡ n / 10 ⌝ }
     ensures { λ r. ⌜ r ≡ column n ⌝ }
 {
@@ -34,15 +43,16 @@ fn put_field(out: &mut [u8], at: usize, n: u32)
         out[at + 4] = ZERO + n as u8;
         return;
     }
-    let tens = n / 10;
-    let hundreds = tens / 10;
-    let thousands = hundreds / 10;
-    let first = thousands / 10;
-    out[at] = column_byte(first, first / 10);
+    let number = n as u64;
+    let tens = tenth(number);
+    let hundreds = tenth(tens);
+    let thousands = tenth(hundreds);
+    let first = tenth(thousands);
+    out[at] = column_byte(first, 0);
     out[at + 1] = column_byte(thousands, first);
     out[at + 2] = column_byte(hundreds, thousands);
     out[at + 3] = column_byte(tens, hundreds);
-    out[at + 4] = ZERO + (n - 10 * tens) as u8;
+    out[at + 4] = ZERO + (number - 10 * tens) as u8;
 }
 
 // Writes a line with the numbers into the front of the output.

@@ -50,6 +50,18 @@ same-length c = search needs
 returns : tie.Need-returns
 returns c = rw (field-digit (c .before .before .args .n) (omega arith)) (simp towards-suc)
 
+tenth-requires : tie.Need-tenth-requires
+tenth-requires c κs = search needs
+
+tenth-requires-2 : tie.Need-tenth-requires-2
+tenth-requires-2 c κs = search needs
+
+tenth-requires-3 : tie.Need-tenth-requires-3
+tenth-requires-3 c κs = search needs
+
+tenth-requires-4 : tie.Need-tenth-requires-4
+tenth-requires-4 c κs = search needs
+
 column-byte-requires : tie.Need-column-byte-requires
 column-byte-requires c κs = search needs
 
@@ -107,9 +119,10 @@ same-length-2 c = search needs
 returns-2 : tie.Need-returns-2
 unfolding field
 returns-2 c =
-    let n = c .before .before .before .before .before .before .args .n in
+    let e = c .before .before .before .before in
+    let n = e .before .before .before .before .before .before .args .n in
     let d : n - 10 * (n / 10) ≡ n % 10 = omega arith in
-    rw (d, ← c .before .before .before .column-byte .ensures, ← c .before .before .column-byte2 .ensures, ← c .before .column-byte3 .ensures, ← c .column-byte4 .ensures)
+    rw (c .before .before .before .column-byte .ensures, c .before .before .column-byte2 .ensures, c .before .column-byte3 .ensures, c .column-byte4 .ensures, e .tenth4 .ensures, e .before .tenth3 .ensures, e .before .before .tenth2 .ensures, e .before .before .before .tenth .ensures, d)
     (simp towards-suc)
 
 pub put-field-spec : {M : Type 1} → statement M
@@ -129,6 +142,10 @@ put-field-spec =
     slice-write-out-5
     same-length
     returns
+    tenth-requires
+    tenth-requires-2
+    tenth-requires-3
+    tenth-requires-4
     column-byte-requires
     slice-write-out-6
     column-byte-requires-2
