@@ -3,13 +3,13 @@
 SHELL := bash
 .SHELLFLAGS := -euo pipefail -c
 .ONESHELL:
-.PHONY: test demo bench fuzz peers fmt tools-installed check-trace host built
+.PHONY: test demo bench fuzz peers fmt tools-installed check-trace mask host built
 
 # What is tried after the prover.
-CHECKS := check-trace host
+CHECKS := check-trace mask host
 
 # What the tests run, and the Debian package that has it. client/ tries its header with the C++ compiler too.
-TOOLS := cc:gcc c++:g++ cargo:cargo python3:python3
+TOOLS := cc:gcc c++:g++ cargo:cargo python3:python3 objdump:binutils
 
 # rt ci's last line, 'N passed, 0 failed', is held back until every other check has passed.
 test: tools-installed
@@ -43,6 +43,11 @@ built:
 	    echo 'make built: failed; this was target/built.log'
 	    exit 1
 	}
+
+# What the compiled printing of a field holds and prints, and the library's read-only data.
+mask: built
+	@rt staticlib mask_probe >target/mask.log 2>&1 || { cat target/mask.log; echo 'make mask: failed; this was target/mask.log'; exit 1; }
+	$(MAKE) --no-print-directory -C tests/mask test
 
 # The compiled library and program, called from C and from Rust.
 host: built

@@ -11,6 +11,9 @@ enum-told c = search needs
 enum-told-2 : tie.Need-enum-told-2
 enum-told-2 c = search needs
 
+is-of-iri-requires : tie.Need-is-of-iri-requires
+is-of-iri-requires c κs = search needs
+
 enum-told-3 : tie.Need-enum-told-3
 enum-told-3 c = search needs
 
@@ -32,7 +35,7 @@ returns c = let e = c .enum-told .given .1 in rw e
 
 returns-2 : tie.Need-returns-2
 unfolding belongs
-returns-2 c = let e = c .enum-told2 .given .1 in rw e
+returns-2 c = let e = c .before .enum-told2 .given .1 in rw e (c .is-of-iri .ensures)
 
 returns-3 : tie.Need-returns-3
 unfolding belongs
@@ -60,6 +63,7 @@ is-of-spec =
     (tie.spec
     enum-told
     enum-told-2
+    is-of-iri-requires
     enum-told-3
     enum-told-4
     enum-told-5
