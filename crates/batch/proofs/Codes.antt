@@ -88,16 +88,16 @@ fault-number t r e =
     said q x h = let y : q ≡ r = cc in rw y at h
 
 -- with memory for every limit the question itself adds 7, and never 8
-asked-number : (t : Fact) (limit : ℕ) (r : Refusal) → asked t limit (needed 1024) ≡ Faulty r → NotShort r
+asked-number : (t : Fact) (limit m : ℕ) (r : Refusal) → needed 1024 ≤ m → asked t limit m ≡ Faulty r → NotShort r
 unfolding asked orElse
-asked-number t limit r e = go (questionFault t) refl
+asked-number t limit m r room e = go (questionFault t) refl
   where
     go : (v : Verdict) → questionFault t ≡ v → NotShort r
     go (Faulty q) p = let x : Faulty q ≡ Faulty r = rw p at e in fault-number t r (p ∙ x)
     go Sound p =
         by-cases (leb limit 1024)
-        (λ y. let n : needed limit ≤ needed 1024 = omega (arith, leb-true limit 1024 y) in
-        let x : Sound ≡ Faulty r = rw (p, y, le-leb (needed limit) (needed 1024) n) at e in let z : _≡_ {A = ℕ} 0 1 = cc in absurd (omega arith))
+        (λ y. let n : needed limit ≤ m = omega (arith, leb-true limit 1024 y) in
+        let x : Sound ≡ Faulty r = rw (p, y, le-leb (needed limit) m n) at e in let z : _≡_ {A = ℕ} 0 1 = cc in absurd (omega arith))
         (λ y. let x : Faulty Allowance ≡ Faulty r = rw (p, y) at e in let z : Allowance ≡ r = cc in rw (sym z) (λ n. omega arith))
 
 refused-plain : (r : Refusal) (place : ℕ) → NotShort r → place ≤ 1024 → Plain (codeOf (Refused r place))
@@ -113,23 +113,23 @@ found-plain limit (some f) x few =
     (λ y. rw y (record { number = omega arith; place = omega arith; count = few f refl; not-short = λ e. omega arith }))
     (λ y. rw y (record { number = omega arith; place = omega arith; count = few f refl; not-short = λ e. omega arith }))
 
-answer-plain : (table : List ℕ) (t : Fact) (limit : ℕ) → Plain (codeOf (questionAnswer table t limit (needed 1024)))
+answer-plain : (table : List ℕ) (t : Fact) (limit m : ℕ) → needed 1024 ≤ m → Plain (codeOf (questionAnswer table t limit m))
 unfolding questionAnswer answerFrom answerOf
-answer-plain table t limit = go (tableOf table) refl
+answer-plain table t limit m room = go (tableOf table) refl
   where
-    judged : (facts : List Fact) → tableOf table ≡ accepted facts → (v : Verdict) → asked t limit (needed 1024) ≡ v → Plain (codeOf (unless v (answerBy limit (fewest facts t) (fillingFor facts t))))
-    judged facts is (Faulty r) e = unfold unless in refused-plain r 0 (asked-number t limit r e) (omega arith)
+    judged : (facts : List Fact) → tableOf table ≡ accepted facts → (v : Verdict) → asked t limit m ≡ v → Plain (codeOf (unless v (answerBy limit (fewest facts t) (fillingFor facts t))))
+    judged facts is (Faulty r) e = unfold unless in refused-plain r 0 (asked-number t limit m r room e) (omega arith)
     judged facts is Sound e =
         unfold unless in found-plain limit (fewest facts t) (fillingFor facts t) (λ f k. omega (arith, fewest-few facts t f k, accepted-size table facts is .1))
 
-    go : (T : Table) → tableOf table ≡ T → Plain (codeOf (questionAnswer table t limit (needed 1024)))
+    go : (T : Table) → tableOf table ≡ T → Plain (codeOf (questionAnswer table t limit m))
     go (refused r place) is = rw is (refused-plain r place (table-number table r place is) (table-place table r place is))
-    go (accepted facts) is = rw is (judged facts is (asked t limit (needed 1024)) refl)
+    go (accepted facts) is = rw is (judged facts is (asked t limit m) refl)
 
 -- each of its three numbers has a field
-pub code-below : (table : List ℕ) (t : Fact) (limit : ℕ) (a : Answer) → a ≡ questionAnswer table t limit (needed 1024) → Below (codeNumbers a)
-code-below table t limit a e =
-    let p : Plain (codeOf a) = rw e (answer-plain table t limit) in
+pub code-below : (table : List ℕ) (t : Fact) (limit m : ℕ) (a : Answer) → needed 1024 ≤ m → a ≡ questionAnswer table t limit m → Below (codeNumbers a)
+code-below table t limit m a room e =
+    let p : Plain (codeOf a) = rw e (answer-plain table t limit m room) in
     (omega (arith, p .number), (omega (arith, p .place), (omega (arith, p .count), tt)))
 
 -- the first line of a reply reads as number, place and count of the answer, and the number is never 8
@@ -137,5 +137,5 @@ pub reply-code : (table : List ℕ) (q : Query) (a : Answer) → a ≡ questionA
     → (laidOut 3 (replyTo table q) 0 ≡ true) × (numbersAt 3 (replyTo table q) 0 ≡ codeNumbers a) × (codeOf a .number ≡ 8 → ⊥)
 unfolding replyTo codeLine
 reply-code table q a e =
-    let r = line-read (codeNumbers a) (replyTo table q) (behindCode a (printedFrom (tableOf table) (q .fact))) 0 (code-below table (q .fact) (q .limit) a e) (rw e) in
-    (r .0, r .1, λ z. answer-plain table (q .fact) (q .limit) .not-short (rw (← e) z))
+    let r = line-read (codeNumbers a) (replyTo table q) (behindCode a (printedFrom (tableOf table) (q .fact))) 0 (code-below table (q .fact) (q .limit) (needed 1024) a (omega arith) e) (rw e) in
+    (r .0, r .1, λ z. answer-plain table (q .fact) (q .limit) (needed 1024) (omega arith) .not-short (rw (← e) z))

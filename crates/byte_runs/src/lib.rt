@@ -2,7 +2,7 @@
 use ntriples::Class;
 use ntriples::LINE_END;
 ghost use mathlib.Core.Path.{_≡_};
-ghost use Rattle.ntriples.specs.declared.Class.the-variants.{Iri};
+ghost use Rattle.ntriples.specs.declared.Class.the-variants.{Iri, Quoted};
 ghost use Rattle.ntriples.specs.Classes.{belongs};
 ghost use Rattle.ntriples.specs.Lexed.{byteAt, runEnd};
 
@@ -18,6 +18,17 @@ fn is_of_iri(b: u8) -> bool
     }
 }
 
+// The byte may stand between a literal's quotes; tried in two parts, as in an IRI.
+fn is_of_quoted(b: u8) -> bool
+    ensures { λ r. ⌜ r ≡ belongs Quoted b ⌝ }
+{
+    if b < 64 {
+        !((b == 34) | (b == 10) | (b == 13))
+    } else {
+        b != 92
+    }
+}
+
 // The byte is of the class.
 pub fn is_of(c: Class, b: u8) -> bool
     ensures { λ r. ⌜ r ≡ belongs c b ⌝ }
@@ -25,7 +36,7 @@ pub fn is_of(c: Class, b: u8) -> bool
     match c {
         Class::White => (b == 32) | (b == 9),
         Class::Iri => is_of_iri(b),
-        Class::Quoted => !((b == 34) | (b == 92) | (b == 10) | (b == 13)),
+        Class::Quoted => is_of_quoted(b),
         Class::Comment => !((b == 10) | (b == 13)),
         Class::Letter => ((65 <= b) & (b <= 90)) | ((97 <= b) & (b <= 122)),
         Class::LetterDigit => {

@@ -5,7 +5,7 @@ use mathlib.Core.Bool.{true, false, cond}
 use mathlib.Core.List.{List, [], _∷_, _++_, append-assoc}
 use Prim.Native.Nat.{ℕ, zero, suc, _+_, _-_, _*_, _/_, _%_, _^_, _≤_, _<_}
 use native.Mathlib.Omega.{arith}
-use native.Mathlib.Nat.{div-eq-of-lt, pow-succ', mul-le-mul-left}
+use native.Mathlib.Nat.{zero-add, div-eq-of-lt, pow-succ', mul-le-mul-left}
 use lib.ListN.{length, getD, drop, List·getD-append}
 use lib.Seq.{getD-drop, getD-append-seam, drop-drop, drop-at, drop-append-le, ext-getD}
 use lib.Dec.{leb}
@@ -83,14 +83,20 @@ line-there ns s rest at b e =
       end = unfold line in rw (← getD-drop at s (5 * length ns) 0, e, append-assoc, ← fields-length) (getD-append-seam (fields ns) 10 rest 0);
     }
 
--- lines of k numbers each, written over the front of what was there
+-- lines of k numbers each, one behind the other, wherever they stand
+pub lines-there : {A : Type 0} (k : ℕ) (numbers : A → List ℕ) → ((a : A) → length (numbers a) ≡ k) → (xs : List A) (s rest : List ℕ) (at : ℕ)
+    → drop at s ≡ flat (λ a. line (numbers a)) xs ++ rest → (i : ℕ) (z : A) → i < length xs → Below (numbers (getD xs i z)) → ShowsLine s (at + width k * i) (numbers (getD xs i z))
+lines-there {A} k numbers long xs s rest at e i z h b =
+    let g : A → List ℕ = λ a. line (numbers a) in
+    let wide : (a : A) → length (g a) ≡ width k = λ a. line-length (numbers a) ∙ rw (long a) in
+    let room : width k * i ≤ length (flat g xs) = rw (flat-length g (width k) wide xs) (mul-le-mul-left (width k) (omega arith)) in
+    let there : drop (at + width k * i) s ≡ line (numbers (getD xs i z)) ++ (flat g (drop (suc i) xs) ++ rest)
+    = rw (← drop-drop (width k * i) at s, e, drop-append-le (width k * i) (flat g xs) rest room, flat-at g (width k) wide xs i z h, append-assoc) in
+    line-there (numbers (getD xs i z)) s (flat g (drop (suc i) xs) ++ rest) (at + width k * i) b there
+
+-- and over the front of what was there
 pub lines-shown : {A : Type 0} (k : ℕ) (numbers : A → List ℕ) → ((a : A) → length (numbers a) ≡ k) → (xs : List A) (old : List ℕ) (i : ℕ) (z : A) → i < length xs
     → Below (numbers (getD xs i z)) → ShowsLine (over (flat (λ a. line (numbers a)) xs) old) (width k * i) (numbers (getD xs i z))
 lines-shown {A} k numbers long xs old i z h b =
     let g : A → List ℕ = λ a. line (numbers a) in
-    let wide : (a : A) → length (g a) ≡ width k = λ a. line-length (numbers a) ∙ rw (long a) in
-    let behind = drop (length (flat g xs)) old in
-    let room : width k * i ≤ length (flat g xs) = rw (flat-length g (width k) wide xs) (mul-le-mul-left (width k) (omega arith)) in
-    let e : drop (width k * i) (flat g xs ++ behind) ≡ line (numbers (getD xs i z)) ++ (flat g (drop (suc i) xs) ++ behind)
-    = rw (drop-append-le (width k * i) (flat g xs) behind room, flat-at g (width k) wide xs i z h, append-assoc) in
-    line-there (numbers (getD xs i z)) (flat g xs ++ behind) (flat g (drop (suc i) xs) ++ behind) (width k * i) b e
+    rw zero-add at (lines-there k numbers long xs (over (flat g xs) old) (drop (length (flat g xs)) old) 0 refl i z h b)

@@ -1,5 +1,5 @@
 -- A decimal number in columns, said without the words of `Fields` and of the code, which work the digits out one after the other
--- (document 02, Point 4). Powers of ten stand here alone. Columns are counted from the right, from 0.
+-- (document 02, Point 4). Only here are digits told by powers of ten. Columns are counted from the right, from 0.
 -- Assumes nothing.
 use mathlib.Core.Path.{_≡_}
 use mathlib.Core.Bool.{Bool, cond, _||_}

@@ -1,27 +1,29 @@
 -- Constants for printing a field (document 02, Point 4). What the code works out is the definition `field`, by tenths; here stands what each
 -- printed byte is by `shown`, which has no word of the code: of a field, of each line that `put_line` writes, and of each line of a table, of a
--- derivation and of a reply, by the calls' equations alone.
+-- derivation and of the program's output, by the calls' equations alone.
 -- Assumes nothing.
 use mathlib.Core.Path.{_≡_}
 use mathlib.Core.List.{List, [], _∷_}
-use Prim.Native.Nat.{ℕ, _*_, _≤_, _<_}
+use Prim.Native.Nat.{ℕ, _+_, _*_, _≤_, _<_}
 use lib.ListN.{length, getD}
 use Rattle.columns.specs.Fields as fields
 use Rattle.columns.specs.Lines as lines
 use Rattle.columns.specs.Lines.{Below, over}
 use Rattle.columns.specs.Digits.{shown, Shows, ShowsLine}
 use Rattle.facts.specs.declared.Fact.{Fact}
+use Rattle.facts.specs.declared.Refusal.the-variants.{Form}
 use Rattle.facts.specs.Gaps.{filledBy}
-use Rattle.facts.specs.Answers.{YesWith}
+use Rattle.facts.specs.Answers.{numberOf, YesWith}
 use Rattle.table.specs.Tables.{terms}
 use Rattle.rules.specs.declared.Line.{Line}
 use Rattle.derivation.specs.Bytes.{lineNumbers}
-use Rattle.question.specs.Question.{needed, questionAnswer, Prints}
+use Rattle.question.specs.Question.{Prints}
 use Rattle.entail.specs.Calls.{WriteCall, ImportCall}
 use Rattle.batch.specs.declared.Query.{Query}
-use Rattle.batch.specs.Output.{codeNumbers, replyTo}
+use Rattle.batch.specs.Output.{outputOf}
+use Rattle.batch.specs.Whole.{Laid}
 use Rattle.demands.specs.Refusals.{SoundRow}
-use Rattle.demands.specs.Demands.{Put, said, SoundPut}
+use Rattle.demands.specs.Demands.{Put, said, SoundPut, Shown, Reply}
 use Rattle.promises.specs.Import.{Imported}
 
 pub record Printing : Type 1 where
@@ -41,5 +43,10 @@ pub record Printing : Type 1 where
   pub derivation : (p : Put) (facts : List Fact) → SoundPut p facts → (f x : ℕ) → YesWith (said p) f x
       → (d : List ℕ) × (prints : Prints facts (filledBy (p .question .fact) x) f d)
       × ((i : ℕ) (z : Line) → i < length (prints .derivation) → ShowsLine (p .exit) (31 * i) (lineNumbers (getD (prints .derivation) i z)))
-  -- the line of number, place and count with which a reply of the program begins
-  pub reply : (table : List ℕ) (q : Query) → ShowsLine (replyTo table q) 0 (codeNumbers (questionAnswer table (q .fact) (q .limit) (needed 1024)))
+  -- each reply of the program, of which its output is made up (`Demand-3`, field `program`): the line of number, place and count, and each line
+  -- of the derivation behind a yes
+  pub heading : {table : List ℕ} {q : Query} {bytes : List ℕ} (r : Reply table q bytes) → ShowsLine bytes 0 (said (r .put) .number ∷ said (r .put) .place ∷ said (r .put) .count ∷ [])
+  pub behind : {table : List ℕ} {q : Query} {bytes : List ℕ} (r : Reply table q bytes) (f x : ℕ) (shows : Shown (r .put) f x (r .derivation))
+      → (i : ℕ) (z : Line) → i < length (shows .prints .derivation) → ShowsLine bytes (16 + 31 * i) (lineNumbers (getD (shows .prints .derivation) i z))
+  -- and the one line for an input that is not laid out
+  pub torn : (b : List ℕ) → ((table : List ℕ) (qs : List Query) → Laid b table qs → ⊥) → ShowsLine (outputOf b) 0 (numberOf Form ∷ 0 ∷ 0 ∷ [])

@@ -17,6 +17,9 @@ is-of-iri-requires c κs = search needs
 enum-told-3 : tie.Need-enum-told-3
 enum-told-3 c = search needs
 
+is-of-quoted-requires : tie.Need-is-of-quoted-requires
+is-of-quoted-requires c κs = search needs
+
 enum-told-4 : tie.Need-enum-told-4
 enum-told-4 c = search needs
 
@@ -39,7 +42,7 @@ returns-2 c = let e = c .before .enum-told2 .given .1 in rw e (c .is-of-iri .ens
 
 returns-3 : tie.Need-returns-3
 unfolding belongs
-returns-3 c = let e = c .enum-told3 .given .1 in rw e
+returns-3 c = let e = c .before .enum-told3 .given .1 in rw e (c .is-of-quoted .ensures)
 
 returns-4 : tie.Need-returns-4
 unfolding belongs
@@ -65,6 +68,7 @@ is-of-spec =
     enum-told-2
     is-of-iri-requires
     enum-told-3
+    is-of-quoted-requires
     enum-told-4
     enum-told-5
     enum-told-6

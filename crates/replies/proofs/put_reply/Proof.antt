@@ -2,6 +2,7 @@
 -- Assumes nothing.
 use mathlib.Core.Path.{_∙_}
 use denote.Ref.{now}
+use native.Mathlib.Omega.{arith}
 use Rattle.batch.proofs.Codes.{code-below}
 use Rattle.batch.proofs.Replies.{reply-answer, reply-put}
 use borrow.Author.Needs.{needs}
@@ -25,7 +26,7 @@ put-code-requires c κs =
     let s = c .before .before .before .before .before .before .before in
     let q = c .before .before .before .question in
     let e = reply-answer (now (s .args .table)) (s .args .q) (now (s .args .out)) _ (q .result) (s .pre) (q .ensures .0) in
-    (search needs, code-below _ (s .args .q .fact) (s .args .q .limit) _ e)
+    (search needs, code-below _ (s .args .q .fact) (s .args .q .limit) _ _ (omega arith) e)
 
 reply-bytes-requires : tie.Need-reply-bytes-requires
 reply-bytes-requires c κs = search needs
