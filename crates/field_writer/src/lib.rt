@@ -9,8 +9,8 @@ ghost use lib.Seq.{sets};
 ghost use Rattle.columns.specs.Fields.{column, field};
 ghost use Rattle.columns.specs.Lines.{Below, line, width, over};
 
-// A tenth of a number below 262,144: 52,429 is a tenth of 524,288, rounded up. Of four divisions by 10 in a row the compiler makes
-// divisions by 100, 1,000 and 10,000 and compares with these; of this it makes a product and a shift.
+// A tenth of a number below 262,144: 52,429 is a tenth of 524,288, rounded up. Of divisions by 10 in a row the compiler makes divisions
+// by 100, 1,000 and so on, and compares with these; of this it makes a product and a shift.
 fn tenth(n: u64) -> u64
     requires { ⌜ n < 262144 ⌝ }
     ensures { λ r. ⌜ r ≡ n / 10 ⌝ }

@@ -13,7 +13,6 @@ use Rattle.columns.proofs.Lines.{field-length, line-length}
 use Rattle.columns.proofs.Digits.{field-shown, shown-field, shown-none, line-there, lines-there, lines-shown}
 use Rattle.facts.specs.declared.Fact.{Fact}
 use Rattle.facts.specs.Answers.{YesWith}
-use Rattle.facts.specs.Gaps.{filledBy}
 use Rattle.table.specs.Tables.{TableFacts, terms, tableBytes}
 use Rattle.table.proofs.Lists.{formed-at, formed-in}
 use Rattle.table.proofs.Tables.{terms-below}
@@ -25,8 +24,8 @@ use Rattle.entail.proofs.Unpacked.{question-unpacked, call-means}
 use Rattle.batch.specs.declared.Query.{Query}
 use Rattle.batch.proofs.Codes.{code-below}
 use Rattle.demands.specs.Refusals.{SoundTable}
-use Rattle.demands.specs.Demands.{Put, said, SoundPut, Reply}
-use Rattle.demands.proofs.Demands.{demand-1, demand-2, demand-3}
+use Rattle.demands.specs.Demands.{Put, said, Reply}
+use Rattle.demands.proofs.Demands.{demand-1, demand-2}
 use Rattle.promises.specs.Printing.{Printing}
 use Rattle.promises.proofs.Import.{import}
 
@@ -57,13 +56,6 @@ module _ (p : Put) (facts : List Fact) (sound : SoundTable (p .question .table) 
 yes-few : (p : Put) (facts : List Fact) → SoundTable (p .question .table) facts → (f x : ℕ) → YesWith (said p) f x → f ≤ length facts
 yes-few p facts sound f x y = call-means (p .call) .sound facts (sound .sound) (sound .bytes) .least f (inl (x, y)) .1
 
-derivation-shown : (p : Put) (facts : List Fact) → SoundPut p facts → (f x : ℕ) → YesWith (said p) f x
-    → (d : List ℕ) × (prints : Prints facts (filledBy (p .question .fact) x) f d)
-    × ((i : ℕ) (z : Line) → i < length (prints .derivation) → ShowsLine (p .exit) (31 * i) (lineNumbers (getD (prints .derivation) i z)))
-derivation-shown p facts sound f x y =
-    let d = demand-3 .printed p facts sound f x y in
-    (d .0, d .2, over-shown p facts (sound .table) (d .2) (yes-few p facts (sound .table) f x y) (d .1))
-
 -- ---- the program
 
 heading-shown : {table : List ℕ} {q : Query} {bytes : List ℕ} (r : Reply table q bytes) → ShowsLine bytes 0 (said (r .put) .number ∷ said (r .put) .place ∷ said (r .put) .count ∷ [])
@@ -82,7 +74,7 @@ printing = record {
   line = λ ns old b. line-there ns (over (line ns) old) (drop (length (line ns)) old) 0 b refl;
   written = λ {facts = facts} g s room i z h. rw (demand-2 .write-done g s room .1) (table-shown facts _ (s .sound) i z h);
   imported = λ {facts = facts} g s room i z h. rw (import .done g s room .1) (table-shown facts _ (s .sound) i z h);
-  derivation = derivation-shown;
+  derivation = λ p facts s f x y d e prints. over-shown p facts (s .table) prints (yes-few p facts (s .table) f x y) e;
   heading = heading-shown;
   behind = λ {bytes = bytes} r f x s. behind-shown (r .put) (s .facts) (s .table) (s .prints) (yes-few (r .put) (s .facts) (s .table) f x (s .yes)) bytes _ refl (r .is);
   torn = λ b h. rw (demand-1 .program-torn b h) (line-there _ _ [] 0 (omega arith, (omega arith, (omega arith, tt))) (sym (append-nil _)));

@@ -1,6 +1,6 @@
 -- Constants for printing a field (document 02, Point 4). What the code works out is the definition `field`, by tenths; here stands what each
--- printed byte is by `shown`, which has no word of the code: of a field, of each line that `put_line` writes, and of each line of a table, of a
--- derivation and of the program's output, by the calls' equations alone.
+-- printed byte is by `shown`, which has no word of the code: of a field, of each line that `put_line` writes, of each line of a table and of a
+-- derivation that the calls for C write, by the calls' equations, and of each reply of the program, wherever it stands in its output.
 -- Assumes nothing.
 use mathlib.Core.Path.{_≡_}
 use mathlib.Core.List.{List, [], _∷_}
@@ -34,15 +34,15 @@ pub record Printing : Type 1 where
   pub whole : (n k : ℕ) → n < 100000 → 5 ≤ k → shown n k ≡ 32
   -- a line, as the contract of `put_line` has it in the front of the memory
   pub line : (ns old : List ℕ) → Below ns → ShowsLine (over (lines.line ns) old) 0 ns
-  -- each line of a table that is written, and of one that is imported
+  -- each line of a table that the call for C writes, and of one that it imports
   pub written : {row entry exit : List ℕ} {n : ℕ} {facts : List Fact} → WriteCall row entry exit n → SoundRow row facts → 16 * length facts ≤ length entry
       → (i : ℕ) (z : Fact) → i < length facts → ShowsLine exit (16 * i) (terms (getD facts i z))
   pub imported : {b entry exit : List ℕ} {n : ℕ} {facts : List Fact} → ImportCall b entry exit n → Imported b facts → 16 * length facts ≤ length entry
       → (i : ℕ) (z : Fact) → i < length facts → ShowsLine exit (16 * i) (terms (getD facts i z))
-  -- each line of the derivation that a yes prints
+  -- each line of the derivation that a yes prints, which `Demand-3`, field `printed`, has in the front of the output
   pub derivation : (p : Put) (facts : List Fact) → SoundPut p facts → (f x : ℕ) → YesWith (said p) f x
-      → (d : List ℕ) × (prints : Prints facts (filledBy (p .question .fact) x) f d)
-      × ((i : ℕ) (z : Line) → i < length (prints .derivation) → ShowsLine (p .exit) (31 * i) (lineNumbers (getD (prints .derivation) i z)))
+      → (d : List ℕ) → p .exit ≡ over d (p .entry) → (prints : Prints facts (filledBy (p .question .fact) x) f d)
+      → (i : ℕ) (z : Line) → i < length (prints .derivation) → ShowsLine (p .exit) (31 * i) (lineNumbers (getD (prints .derivation) i z))
   -- each reply of the program, of which its output is made up (`Demand-3`, field `program`): the line of number, place and count, and each line
   -- of the derivation behind a yes
   pub heading : {table : List ℕ} {q : Query} {bytes : List ℕ} (r : Reply table q bytes) → ShowsLine bytes 0 (said (r .put) .number ∷ said (r .put) .place ∷ said (r .put) .count ∷ [])
