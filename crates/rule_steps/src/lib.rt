@@ -107,19 +107,15 @@ const ROWS: [Row; 6] = [
     },
 ];
 
-// The term that a cell stands for, with p and q for the premises: a term of the vocabulary for itself. The cells of p are tried apart from
-// those of q: of four in a row the compiler makes a table of places to jump to.
+// The term that a cell stands for, with p and q for the premises.
 fn cell(c: u32, p: Fact, q: Fact) -> u32
     ensures { λ r. ⌜ r ≡ cellOf c p q ⌝ }
 {
-    if c < SUBJECT_2 {
-        if c == SUBJECT_1 {
-            return p.subject;
-        }
-        if c == OBJECT_1 {
-            return p.object;
-        }
-        return c;
+    if c == SUBJECT_1 {
+        return p.subject;
+    }
+    if c == OBJECT_1 {
+        return p.object;
     }
     if c == SUBJECT_2 {
         return q.subject;
