@@ -4,7 +4,7 @@
 use facts::Fact;
 
 // The facts on the two lines before a line, which the lines of a printed derivation rest on.
-#[derive(Drop)]
+#[derive(Clone, Copy)]
 pub struct Near {
     pub last: Fact,
     pub before: Fact,

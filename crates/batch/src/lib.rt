@@ -5,14 +5,14 @@
 use facts::Fact;
 
 // An input: torn, or the bytes of its table and the number of its questions.
-#[derive(Drop)]
+#[derive(Clone, Copy)]
 pub enum Input {
     Torn,
     Parts { table: usize, questions: usize },
 }
 
 // A question: its triple and its limit, document 01's allowance.
-#[derive(Drop)]
+#[derive(Clone, Copy)]
 pub struct Query {
     pub fact: Fact,
     pub limit: u32,

@@ -7,7 +7,7 @@ ghost use Rattle.confirms.specs.Confirms.{Confirms};
 use facts::{Answer, Fact};
 
 // What a question answers, and what the check says of the derivation that it printed.
-#[derive(Drop)]
+#[derive(Clone, Copy)]
 pub struct Confirmed {
     pub answer: Answer,
     pub verdict: Answer,

@@ -3,7 +3,7 @@
 #![tactic(auto)]
 
 // The kind of a number that stands where a term belongs.
-#[derive(Drop)]
+#[derive(Clone, Copy)]
 pub enum Kind {
     NoTerm,
     Vocabulary,
@@ -25,7 +25,7 @@ pub const RANGE: u32 = 4;
 pub const TYPE: u32 = 5;
 
 // A fact. Its numbers are 32 bits wide, so that a number above 16 bits can be refused.
-#[derive(Drop)]
+#[derive(Clone, Copy)]
 pub struct Fact {
     pub subject: u32,
     pub predicate: u32,
@@ -33,7 +33,7 @@ pub struct Fact {
 }
 
 // What documents 01 and 02 refuse, under their own words.
-#[derive(Drop)]
+#[derive(Clone, Copy)]
 pub enum Refusal {
     Size,
     Column,
@@ -53,7 +53,7 @@ pub enum Refusal {
 }
 
 // What a test finds: nothing to refuse, or the first refusal that is earned.
-#[derive(Drop)]
+#[derive(Clone, Copy)]
 pub enum Verdict {
     Sound,
     Faulty(Refusal),
@@ -61,7 +61,7 @@ pub enum Verdict {
 
 // What a call answers. A count is a number of facts or table lines; the second number of a yes is the term that fills the
 // question's gap, or 0 where it has none; the u32 of a refusal is document 01's place: a line's number, counted from 1, or 0.
-#[derive(Drop)]
+#[derive(Clone, Copy)]
 pub enum Answer {
     Done(u32),
     Yes(u32, u32),
@@ -72,7 +72,7 @@ pub enum Answer {
 }
 
 // An answer as document 01 numbers it, and the term that it names for a gap.
-#[derive(Drop)]
+#[derive(Clone, Copy)]
 pub struct Code {
     pub number: u32,
     pub place: u32,

@@ -25,7 +25,7 @@ pub const CARET: u8 = 94;
 pub const UNDERSCORE: u8 = 95;
 
 // The classes of bytes.
-#[derive(Drop)]
+#[derive(Clone, Copy)]
 pub enum Class {
     White,
     Iri,
@@ -37,14 +37,14 @@ pub enum Class {
 }
 
 // A part of a line: from one place up to another.
-#[derive(Drop)]
+#[derive(Clone, Copy)]
 pub struct Span {
     pub from: usize,
     pub to: usize,
 }
 
 // What a line says: it is outside the subset, names a blank node, says nothing, or is a statement.
-#[derive(Drop)]
+#[derive(Clone, Copy)]
 pub enum Line {
     Outside,
     Unknown,

@@ -7,21 +7,21 @@ pub const FIRST_NAME: u32 = 6;
 pub const FIRST_LITERAL: u32 = 40000;
 
 // How many names and literals have a number.
-#[derive(Drop)]
+#[derive(Clone, Copy)]
 pub struct Counts {
     pub names: u32,
     pub literals: u32,
 }
 
 // A token's number, and the counts with it.
-#[derive(Drop)]
+#[derive(Clone, Copy)]
 pub struct Numbered {
     pub number: u32,
     pub counts: Counts,
 }
 
 // What the index says of a token: its number, or the place where its entry belongs.
-#[derive(Drop)]
+#[derive(Clone, Copy)]
 pub enum Found {
     Number(u32),
     Place(usize),

@@ -13,7 +13,7 @@ use libc::STDOUT_FILENO;
 use replies::REPLY_BYTES;
 
 // Whether all was written, and the bytes of the pieces that were. Where a write failed, nothing more was tried.
-#[derive(Drop)]
+#[derive(Clone, Copy)]
 pub struct Printed {
     pub whole: bool,
     pub bytes: usize,

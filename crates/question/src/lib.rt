@@ -23,14 +23,14 @@ pub struct Reached {
 }
 
 // Places that stand together.
-#[derive(Drop)]
+#[derive(Clone, Copy)]
 pub struct Span {
     pub from: usize,
     pub to: usize,
 }
 
 // A part of the row, and where it is noted that it has been passed.
-#[derive(Drop)]
+#[derive(Clone, Copy)]
 pub struct Part {
     pub from: usize,
     pub to: usize,
@@ -38,14 +38,14 @@ pub struct Part {
 }
 
 // The first place, or n, of those that a step back looks for, and the part of the queue that is left for the next.
-#[derive(Drop)]
+#[derive(Clone, Copy)]
 pub struct Step {
     pub at: usize,
     pub top: usize,
 }
 
 // The number of facts on a shortest path, if there is a path.
-#[derive(Drop)]
+#[derive(Clone, Copy)]
 pub enum Found {
     Nothing,
     Facts(usize),

@@ -4,7 +4,7 @@
 use facts::Fact;
 
 // A derivation line: the rule's number (0 for a table line), the line numbers of its premises, counted from 1, and its fact.
-#[derive(Drop)]
+#[derive(Clone, Copy)]
 pub struct Line {
     pub rule: u32,
     pub first: u32,
@@ -13,7 +13,7 @@ pub struct Line {
 }
 
 // A rule: the predicate of the first premise, the cells of the second premise, and those of what the rule gives.
-#[derive(Drop)]
+#[derive(Clone, Copy)]
 pub struct Row {
     pub first: u32,
     pub second: Fact,

@@ -15,14 +15,14 @@ pub const LINE_BYTES: usize = 16;
 pub const ROW_NUMBERS: usize = 3072;
 
 // How far a scan of lines or facts gets: past all of them, or to the first refusal and its place.
-#[derive(Drop)]
+#[derive(Clone, Copy)]
 pub enum Scan {
     Passes(u32),
     Stops(Refusal, u32),
 }
 
 // What a line comes to: the first of 2, 3, 4, 5, 12, 6 that it earns, and its fact.
-#[derive(Drop)]
+#[derive(Clone, Copy)]
 pub struct Judged {
     pub verdict: Verdict,
     pub fact: Fact,
