@@ -3,7 +3,7 @@
 use mathlib.Core.Path.{◌≡◌, refl, sym, ap, ◌∙◌}
 use mathlib.Core.Bool.{true, false, ◌&&◌}
 use mathlib.Core.List.{List, [], ◌∷◌, ◌++◌}
-use Prim.Native.Nat.{ℕ, zero, suc, ◌+◌, ◌-◌, ◌*◌, ◌/◌, ◌%◌, ◌≤◌, ◌<◌}
+use Prim.Native.Nat.{ℕ, zero, suc, ◌+◌, ◌*◌, ◌/◌, ◌%◌, ◌≤◌, ◌<◌}
 use native.Mathlib.Omega.{arith}
 use native.Mathlib.Nat.{add-zero, zero-add}
 use lib.ListN.{length, take, drop, length-append, length-drop, take-append-drop, drop_of_length-le}
@@ -11,7 +11,7 @@ use lib.Seq.{length-take-le, take_at, drop_at, drop-drop, take-append-le, drop-a
 use lib.Dec.{eqb, leb}
 use borrow.Author.Tests.{eqb-true, eq-eqb, le-leb, leb-true}
 use Rattle.columns.specs.Fields.{number_at}
-use Rattle.columns.specs.Lines.{line, numbers_at, laid_out, flat, items_from}
+use Rattle.columns.specs.Lines.{numbers_at, laid_out, flat, items_from}
 use Rattle.columns.proofs.Fields.{both}
 use Rattle.columns.proofs.Lines.{line-length, line_read, line-written}
 use Rattle.columns.proofs.Lists.{flat-length}

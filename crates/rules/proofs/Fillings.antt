@@ -2,7 +2,7 @@
 -- the fillings is that of the fact itself.
 -- Assumes nothing.
 use mathlib.Core.Path.{◌≡◌, refl, sym, ap, ◌∙◌, subst}
-use mathlib.Core.Logic.{◌↔◌, ◌⊎◌, ⊎_elim}
+use mathlib.Core.Logic.{◌↔◌, ⊎_elim}
 use mathlib.Core.Bool.{Bool, true, false, cond, beq, true≢false}
 use mathlib.Core.List.{List}
 use Prim.Native.Nat.{ℕ}

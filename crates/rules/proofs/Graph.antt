@@ -12,7 +12,7 @@ use native.Mathlib.Omega.{arith}
 use lib.ListN.{length, get_or}
 use lib.Dec.{T}
 use mir.Facts.{T_not}
-use Rattle.rules.specs.Graph.{◌∈◌, keep, Path, first, step, nodes, layer, least}
+use Rattle.rules.specs.Graph.{◌∈◌, keep, any, Path, first, step, nodes, layer, least}
 use Rattle.facts.proofs.Terms.{by_cases, T_of, of_T}
 use Rattle.rules.proofs.Tests.{keep-in, in-keep, keep-shorter, any-in, in-any}
 
@@ -61,10 +61,10 @@ module _ {A : Type 0} (st : A → Bool) (nx : A → A → Bool) where
   unfolding layer
   layer-path S zero m = absurd (Memᴰ.not-nil m)
   layer-path S (suc zero) m = let h = keep-in st S m in first h.0 h.1
-  layer-path S (suc (suc k)) m =
-      let h = keep-in _ S m in
-      let r = any-in _ (layer st nx S (suc k)) h.1 in
-      step (layer-path S (suc k) r.1) h.0 r.2
+  layer-path S {a = a} (suc (suc k)) m =
+      let h = keep-in (λ b. any (λ c. nx c b) (layer st nx S (suc k))) S m in
+      let r = any-in (λ c. nx c a) (layer st nx S (suc k)) h.1 in
+      step (layer-path S {a = r.0} (suc k) r.1) h.0 r.2
 
 module _ {A : Type 0} (st : A → Bool) (nx : A → A → Bool) (same : A → A → Bool) (eq : (a b : A) → T (same a b) → a ≡ b) (self : (a : A) → T (same a a)) where
   without : A → List A → List A

@@ -188,7 +188,7 @@ module _ {table : List Fact} where
 
       others : {P : ℕ} → Open P → a.predicate ≡ P → FactsInOrder (a ∷ fs)
       others is-sc e = record { sps = []; data-fact = []; typing = []; scs = a ∷ fs; parts = refl; sp-chain = tt; one-data = tt; one-typing = tt; sc-chain = sc-from a e refl (ap phase e) js }
-      others is-sp e = let x = sp-from e refl (ap phase e) js in let y = x.typing in record {
+      others is-sp e = let x = sp-from {a = a} e refl (ap phase e) js in let y = x.typing in record {
         sps = a ∷ x.sps;
         data-fact = x.data-fact;
         typing = y.typing;
