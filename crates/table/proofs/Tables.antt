@@ -5,13 +5,13 @@ use mathlib.Core.Logic.{◌↔◌, ◌⊎◌, inl, inr, ⊎_elim}
 use mathlib.Core.Bool.{Bool, true, false, cond}
 use mathlib.Core.List.Memᴰ
 use mathlib.Core.List.{List, [], ◌∷◌, ◌++◌, Memᴰ}
-use Prim.Native.Nat.{ℕ, zero, suc, ◌+◌, ◌-◌, ◌*◌, ◌/◌, ◌≤◌, ◌<◌}
+use Prim.Native.Nat.{ℕ, zero, suc, ◌+◌, ◌*◌, ◌/◌, ◌≤◌, ◌<◌}
 use native.Mathlib.Omega.{arith}
 use native.Mathlib.Nat.{add-zero, zero-add, div-le_of_le-mul}
 use lib.ListN.{length, get_or, drop, drop_of_length-le, take-append-drop, get_or-append}
 use lib.Seq.{drop-drop}
 use lib.Dec.{T}
-use Rattle.columns.specs.Lines.{line, laid_out, numbers_at, Below, flat, items_from}
+use Rattle.columns.specs.Lines.{laid_out, numbers_at, Below, flat, items_from}
 use Rattle.columns.proofs.Lists.{flat-at, items-length, items_at, items-listed, lines-written, line-placed}
 use Rattle.facts.specs.declared.Fact.{Fact}
 use Rattle.facts.specs.declared.Refusal.{Refusal}
