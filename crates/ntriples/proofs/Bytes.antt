@@ -61,7 +61,7 @@ or_among x b (c ∷ l) = or_among (x || eqb b c) b l
 or-among : {x : Bool} {P : Type 0} (b : ℕ) (l : List ℕ) → Tests x P → Tests (or_among x b l) (P ⊎ Memᴰ b l)
 or-among b [] f = (λ e. inl (f.0 e), ⊎_elim f.1 (λ m. absurd (Memᴰ.not-nil m)))
 or-among {x} {P} b (c ∷ l) f =
-    let g = or-among b l (either f (is b c)) in (
+    let g = or-among {x = x || eqb b c} {P = P ⊎ (b ≡ c)} b l (either f (is b c)) in (
       λ e. ⊎_elim (λ (h : P ⊎ (b ≡ c)). ⊎_elim (λ p. inl p) (λ (e : b ≡ c). inr (Memᴰ.head e)) h) (λ (m : Memᴰ b l). inr (Memᴰ.tail m)) (g.0 e),
       λ h. g.1 (⊎_elim (λ (p : P). inl (inl p)) (λ (m : Memᴰ b (c ∷ l)). ⊎_elim (λ (e : b ≡ c). inl (inr e)) (λ (n : Memᴰ b l). inr n) (Memᴰ.cases_cons m)) h),
     )

@@ -14,7 +14,7 @@ use Rattle.ntriples.specs.declared.Span.{Span}
 use Rattle.ntriples.specs.declared.Line.{Line}
 use Rattle.ntriples.specs.declared.Line.TheVariants.{Outside, Unknown, Nothing, Triple}
 use Rattle.ntriples.specs.Classes.{belongs}
-use Rattle.ntriples.specs.Grammar.{or, Of, iri, literal, blank, white, rest, subject, object, Silent}
+use Rattle.ntriples.specs.Grammar.{or, Of, iri, literal, blank, white, rest, Silent}
 use Rattle.ntriples.specs.Lexed.{byte_at, run_end, ends, is_blank, line_of}
 use Rattle.ntriples.specs.Outcomes.{NamesBlank, States, Foreign, ReadAs, Outcomes}
 use Rattle.ntriples.specs.Tokens.{Token, spanned}
