@@ -22,15 +22,13 @@ pub returns-then-size-ne0 : goal.returns-then-size-ne0
 unfolding table_scan
 returns-then-size-ne0 c =
     let b = c.args.bytes.now in
-    let e : table_scan b ≡ Stops Size 0 = rw (sized-torn 16 16384 (length b) c.if-size-ne0.true) in
-    (sym (scan-table b ∙ e), loaded-none b Size e c.args.row.now)
+    let e : table_scan b ≡ Stops Size 0 = rw (sized-torn 16 16384 (length b) c.if-size-ne0.true) in record { answer = sym (scan-table b ∙ e); facts = loaded-none b Size e c.args.row.now }
 
 pub returns-then-size-gt-TABLE_BYTES : goal.returns-then-size-gt-TABLE_BYTES
 unfolding table_scan
 returns-then-size-gt-TABLE_BYTES c =
     let b = c.args.bytes.now in
-    let e : table_scan b ≡ Stops Size 0 = rw (sized-large 16 16384 (length b) c.if-size-gt-TABLE_BYTES.true) in
-    (sym (scan-table b ∙ e), loaded-none b Size e c.args.row.now)
+    let e : table_scan b ≡ Stops Size 0 = rw (sized-large 16 16384 (length b) c.if-size-gt-TABLE_BYTES.true) in record { answer = sym (scan-table b ∙ e); facts = loaded-none b Size e c.args.row.now }
 
 pub loop-i-init : goal.loop-i-init
 unfolding table_scan items_from flat
@@ -51,8 +49,7 @@ returns-in-Faulty c =
     let b = s.args.bytes.now in
     let r = c.in-Faulty.r in
     let e : table_scan b ≡ Stops r (l.i + 1) =
-    l.invariant.1 ∙ scan-stop (line_verdict b) (length b / 16) l.i (omega arith) (sym c.judge_line-line.ensures.verdict ∙ c.in-Faulty.is) in
-    (sym (scan-table b ∙ e), l.invariant.4 ∙ rw (loaded-stop b r l.i e))
+    l.invariant.1 ∙ scan-stop (line_verdict b) (length b / 16) l.i (omega arith) (sym c.judge_line-line.ensures.verdict ∙ c.in-Faulty.is) in record { answer = sym (scan-table b ∙ e); facts = l.invariant.4 ∙ rw (loaded-stop b r l.i e) }
 
 pub loop-i-preserved : goal.loop-i-preserved
 loop-i-preserved c =
@@ -70,7 +67,7 @@ loop-i-preserved c =
       omega arith,
       e,
       (λ h. rw i f),
-      omega (arith, p.auto.row.0),
+      omega (arith, p.auto.row),
       p.ensures ∙ rw (f, l.invariant.4) (stored ∙ rw (flat-more terms (line_fact b) l.i)),
     )
 
@@ -84,5 +81,4 @@ returns c =
     let b = s.args.bytes.now in
     let n = length b / 16 in
     let i : l.i ≡ n = omega arith in
-    let e : table_scan b ≡ Passes n = l.invariant.1 ∙ scan-end (line_verdict b) n l.i i in
-    (sym (scan-table b ∙ e), l.invariant.4 ∙ rw (loaded-all b n e, i))
+    let e : table_scan b ≡ Passes n = l.invariant.1 ∙ scan-end (line_verdict b) n l.i i in record { answer = sym (scan-table b ∙ e); facts = l.invariant.4 ∙ rw (loaded-all b n e, i) }

@@ -40,8 +40,8 @@ loop-i-preserved c =
     let numbers = taken row l.from l.i l.invariant.2 (omega arith) in
     let long : length (table_bytes (items_from (row_fact row) 0 l.i)) ≡ l.at = rw (bytes-length, items-length) (sym l.invariant.1) in
     let room : l.at + length (line_of (row_fact row l.i)) ≤ length out = rw line-length (omega arith) in
-    let e = part-more l.out (table_bytes (items_from (row_fact row) 0 l.i)) (line_of (row_fact row l.i)) out p.new.1.0 l.at l.invariant.4 l.invariant.3 long room (p.ensures ∙ rw numbers) in
-    (omega arith, omega arith, omega arith, same_len_mid l.at (length l.out - l.at) l.out p.new.1.0 p.auto.1.0 ∙ l.invariant.3, e ∙ rw (flat-more line_of (row_fact row) l.i))
+    let e = part-more l.out (table_bytes (items_from (row_fact row) 0 l.i)) (line_of (row_fact row l.i)) out p.new.out l.at l.invariant.4 l.invariant.3 long room (p.ensures ∙ rw numbers) in
+    (omega arith, omega arith, omega arith, same_len_mid l.at (length l.out - l.at) l.out p.new.out p.auto.out ∙ l.invariant.3, e ∙ rw (flat-more line_of (row_fact row) l.i))
 
 pub shape_of-out : goal.shape_of-out
 shape_of-out c = c.loop-i.invariant.3
