@@ -19,7 +19,7 @@ check_derivation-requires c =
 
 pub returns-in-Stops : goal.returns-in-Stops
 unfolding check_answer table_answer
-returns-in-Stops c = let b = c.args.table.now in check-told _ _ _ _ (rw (scan-stops (table_of b) _ _ (sym c.load.ensures.answer ∙ c.in-Stops.is)))
+returns-in-Stops c = let b = c.args.table.now in let both = check-told _ _ _ _ (rw (scan-stops (table_of b) _ _ (sym c.load.ensures.answer ∙ c.in-Stops.is))) in record { call = both.0; meaning = both.1 }
 
 pub returns-in-Faulty : goal.returns-in-Faulty
 unfolding check_answer table_answer fact_answer
@@ -27,7 +27,7 @@ returns-in-Faulty c =
     let b = c.args.table.now in
     let p = scan-passes (table_of b) c.in-Passes.n (sym c.load.ensures.answer ∙ c.in-Passes.is) in
     let e = sym c.fault.ensures ∙ c.in-Faulty.is in
-    check-told _ _ _ _ (rw (p.1, e))
+    let both = check-told _ _ _ _ (rw (p.1, e)) in record { call = both.0; meaning = both.1 }
 
 pub returns-in-Sound : goal.returns-in-Sound
 unfolding check_answer table_answer fact_answer
@@ -36,4 +36,4 @@ returns-in-Sound c =
     let p = scan-passes (table_of b) c.in-Passes.n (sym c.load.ensures.answer ∙ c.in-Passes.is) in
     let l = c.load in
     let e = sym c.fault.ensures ∙ c.in-Sound.is in
-    check-told _ _ _ _ (rw (p.1, e, ← loaded-facts b p.0 p.1 l.new.row _ l.ensures.facts _ p.2) c.check_derivation.ensures)
+    let both = check-told _ _ _ _ (rw (p.1, e, ← loaded-facts b p.0 p.1 l.new.row _ l.ensures.facts _ p.2) c.check_derivation.ensures) in record { call = both.0; meaning = both.1 }
