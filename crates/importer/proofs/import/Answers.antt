@@ -23,7 +23,7 @@ pub returns-in-Fault : goal.returns-in-Fault
 returns-in-Fault c =
     let s = c in
     let b = s.args.input.now in
-    let v = c.r-1.given in record { call = refuses (import_of b) s.args.table.now v.0.0 v.0.1.0 (import-fault b c.if-input-gt-INPUT_MOST.false v.0.0 v.0.1.0 (sym c.judge.ensures ∙ v.1)) }
+    record { call = refuses (import_of b) s.args.table.now c.in-Fault.r c.in-Fault.place (import-fault b c.if-input-gt-INPUT_MOST.false c.in-Fault.r c.in-Fault.place (sym c.judge.ensures ∙ c.in-Fault.is)) }
 
 pub returns-else-n-gt-PLACES : goal.returns-else-n-gt-PLACES
 returns-else-n-gt-PLACES c =
