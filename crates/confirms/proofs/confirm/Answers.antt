@@ -3,15 +3,13 @@
 -- Assumes nothing.
 use mathlib.Core.Path.{◌≡◌, refl, ◌∙◌}
 use mathlib.Core.List.{[], ◌∷◌}
+use Prim.Native.Nat.{ℕ}
 use native.Mathlib.Omega.{arith}
 use lib.ListN.{length-take}
-use types.Run.{OneOf, miss}
-use denote.Enum.Declared.{tag_of}
 use borrow.Author.Rules.{rules}
 use Rattle.facts.specs.declared.Answer.{Answer}
 use Rattle.facts.specs.declared.Answer.TheVariants.{Done, Yes, No, Long, Accepted, Refused}
 use Rattle.facts.specs.Gaps.{filled_by}
-use Rattle.facts.specs.contracts.Answer.{the_type}
 use Rattle.confirms.specs.Confirms.{confirmed}
 use Rattle.confirms.proofs.Confirms.{Checked, yes-checked}
 use Rattle.confirms.proofs.confirm.Goals as goal
@@ -26,10 +24,10 @@ checked c =
     let q = s.question-a in
     yes-checked args.table.now args.fact args.limit c.in-Yes.f c.in-Yes.x args.output.now q.new.output q.result q.ensures.call c.in-Yes.is
 
--- any variant but the second, a yes
-alone : (a : Answer) → OneOf (0 ∷ 2 ∷ 3 ∷ 4 ∷ 5 ∷ []) (tag_of the_type a) → a ≡ confirmed a
+-- any answer but a yes
+alone : (a : Answer) → ((f x : ℕ) → a ≡ Yes f x → ⊥) → a ≡ confirmed a
 unfolding confirmed
-alone (Yes f x) k = absurd (miss (0 ∷ 2 ∷ 3 ∷ 4 ∷ 5 ∷ []) 1 tt k)
+alone (Yes f x) k = absurd (k f x refl)
 alone No k = refl
 alone (Long f) k = refl
 alone (Done n) k = refl
@@ -37,7 +35,7 @@ alone (Accepted n) k = refl
 alone (Refused r place) k = refl
 
 pub returns-in_default : goal.returns-in_default
-returns-in_default c = let q = c.question-a in record { answers = q.ensures.call; verdict = alone q.result c.in-Yes.keys2 }
+returns-in_default c = let q = c.question-a in record { answers = q.ensures.call; verdict = alone q.result c.in_default.not-Yes }
 
 pub slice_bounds-check-end : goal.slice_bounds-check-end
 slice_bounds-check-end c = omega (arith, (checked (goal.at-slice_bounds-check-end c).In-Yes).room, c.needed_for-used.ensures)

@@ -5,8 +5,8 @@ use borrow.Author.Rules.{rules}
 use Rattle.replies.proofs.put_code.Goals as goal
 
 pub put_line-requires : goal.put_line-requires
-put_line-requires c = rw c.code_of_lem.ensures (search rules)
+put_line-requires c = rw c.code_of-c.ensures (search rules)
 
 pub returns : goal.returns
 unfolding code_line
-returns c = rw (c.put_line.ensures, c.code_of_lem.ensures)
+returns c = rw (c.put_line.ensures, c.code_of-c.ensures)
