@@ -6,7 +6,8 @@ ghost use Rattle.std.specs.Prelude.{◌+◌, ◌≤◌, ◌<◌, length};
 
 use columns::NO_FIELD;
 use facts::{Answer, Fact};
-use libc::{STDIN_FILENO, STDOUT_FILENO};
+use std::io;
+use std::io::Stdout;
 
 // The fields and bytes of a case's first line, the bytes of an answer, and the most bytes of all cases.
 const HEAD_FIELDS: usize = 5;
@@ -23,7 +24,7 @@ fn input_space() -> [u8; INPUT_BYTES] {
 }
 
 // Prints the last five digits of the number, place and count of an answer.
-fn show(a: Answer) {
+fn show(to: Stdout, a: Answer) {
     let code = codes::code_of(a);
     let numbers = [
         code.number % NO_FIELD,
@@ -32,7 +33,7 @@ fn show(a: Answer) {
     ];
     let mut line = [0u8; ANSWER_BYTES];
     field_writer::put_line(&numbers, &mut line);
-    io::write_all(STDOUT_FILENO, &line);
+    let _ = to.write_all(&line);
 }
 
 // The fact put, by the fields from a place on.
@@ -50,7 +51,7 @@ fn fact_put(input: &[u8], at: usize) -> Fact
 }
 
 // Runs the case at a place, and gives where the next begins; what is no case ends the run.
-fn run_case(input: &[u8], at: usize) -> usize
+fn run_case(input: &[u8], at: usize, to: Stdout) -> usize
     requires { at + 26 ≤ length input.now }
     ensures { (at < result) × (result ≤ length input.now) }
 {
@@ -70,21 +71,22 @@ fn run_case(input: &[u8], at: usize) -> usize
     }
     let next = derivation + derivation_bytes;
     let fact = fact_put(input, at + 10);
-    show(checker::check(&input[table..derivation], fact, &input[derivation..next]));
+    show(to, checker::check(&input[table..derivation], fact, &input[derivation..next]));
     next
 }
 
 // Runs the cases one after the other.
-fn run(input: &[u8]) {
+fn run(input: &[u8], to: Stdout) {
     let mut at = 0;
     while HEAD_BYTES <= input.len() - at {
-        at = run_case(input, at);
+        at = run_case(input, at, to);
     }
 }
 
 // Reads the cases and runs them.
-fn main() {
+fn main(rt: HostRuntime) -> io::Result<()> {
     let mut input = input_space();
-    let n = io::read_full(STDIN_FILENO, &mut input);
-    run(&input[..n]);
+    let n = stream_reader::read_full(&mut rt.stdin(), &mut input)?;
+    run(&input[..n], rt.stdout());
+    Ok(())
 }

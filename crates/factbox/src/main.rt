@@ -4,7 +4,7 @@
 
 ghost use Rattle.std.specs.Prelude.{◌≡◌, length};
 
-use libc::STDIN_FILENO;
+use std::io::Read;
 
 // The most bytes of an input, and one more, so that too much is noticed.
 const INPUT_SPACE: usize = input::INPUT_BYTES + 1;
@@ -16,19 +16,20 @@ fn input_space() -> [u8; INPUT_SPACE]
     [0u8; INPUT_SPACE]
 }
 
-// Whether standard input is at its end: a further read gives 0 bytes. A read that fails gives less.
-fn is_at_end() -> bool {
+// Whether a stream is at its end: a further read gives 0 bytes. A read that fails gives an error.
+fn is_at_end<R: Read>(stream: &mut R) -> bool {
     let mut next = [0u8; 1];
-    libc::read(STDIN_FILENO, &mut next) == 0
+    matches!(stream.read(&mut next), Ok(0))
 }
 
 // Reads the input and prints its output.
-fn main() {
+fn main(rt: HostRuntime) {
     let mut input = input_space();
-    let size = io::read_full(STDIN_FILENO, &mut input);
-    let _printed = if is_at_end() {
-        printer::print_output(&input[..size])
-    } else {
-        printer::print_torn()
+    let mut stdin = rt.stdin();
+    let mut stdout = rt.stdout();
+    let read = stream_reader::read_full(&mut stdin, &mut input);
+    let _printed = match read {
+        Ok(size) if is_at_end(&mut stdin) => printer::print_output(&mut stdout, &input[..size]),
+        _ => printer::print_torn(&mut stdout),
     };
 }

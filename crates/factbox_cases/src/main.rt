@@ -4,7 +4,7 @@
 
 ghost use Rattle.std.specs.Prelude.{◌≡◌, length};
 
-use libc::STDIN_FILENO;
+use std::io::{Read, Write};
 
 // The bytes of a line with a length; the most bytes of an input, and one more; the most inputs.
 const HEADER: usize = 6;
@@ -21,31 +21,34 @@ fn input_space() -> [u8; INPUT_SPACE]
 }
 
 // Reads one input into memory of its length and prints its output.
-fn run_input(input: &mut [u8]) {
-    let size = io::read_full(STDIN_FILENO, input);
-    let _printed = printer::print_output(&input[..size]);
+fn run_input<R: Read, W: Write>(from: &mut R, to: &mut W, input: &mut [u8]) {
+    if let Ok(size) = stream_reader::read_full(from, input) {
+        let _printed = printer::print_output(to, &input[..size]);
+    }
 }
 
 // Runs the next input; false where none is left.
-fn run_next() -> bool {
+fn run_next<R: Read, W: Write>(from: &mut R, to: &mut W) -> bool {
     let mut header = [0u8; HEADER];
-    if io::read_full(STDIN_FILENO, &mut header) < HEADER {
+    let Ok(HEADER) = stream_reader::read_full(from, &mut header) else {
         return false;
-    }
+    };
     let n = digit_reader::number_at(&header, 0) as usize;
     let mut input = input_space();
     if INPUT_SPACE < n {
         return false;
     }
-    run_input(&mut input[0..n]);
+    run_input(from, to, &mut input[0..n]);
     true
 }
 
 // Runs the inputs one after the other.
-fn main() {
+fn main(rt: HostRuntime) {
+    let mut from = rt.stdin();
+    let mut to = rt.stdout();
     let mut left = INPUTS;
     while 0 < left {
-        if !run_next() {
+        if !run_next(&mut from, &mut to) {
             return;
         }
         left -= 1;

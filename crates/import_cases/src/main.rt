@@ -8,7 +8,8 @@ ghost use Rattle.std.specs.Prelude.{◌+◌, ◌≤◌, ◌<◌, length};
 
 use columns::NO_FIELD;
 use facts::Code;
-use libc::{STDIN_FILENO, STDOUT_FILENO};
+use std::io;
+use std::io::Stdout;
 use table::ROW_NUMBERS;
 
 // A case's first line: its fields and its bytes.
@@ -54,7 +55,7 @@ fn bytes_kept(bytes: &[u8], from: usize) -> bool
     requires { (from ≤ length bytes.now) × (from ≤ 17000) }
 {
     let before = byte_memory();
-    check::same(&bytes[from..], &before[from..])
+    bytes[from..] == before[from..]
 }
 
 // Reading accepts the table, with so many facts.
@@ -65,7 +66,7 @@ fn is_accepted(table: &[u8], count: u32) -> bool {
 }
 
 // Prints the last five digits of each number of a case's answer, and whether memory is as it must be.
-fn show(code: Code, kept: bool) {
+fn show(to: Stdout, code: Code, kept: bool) {
     let numbers = [
         code.number % NO_FIELD,
         code.place % NO_FIELD,
@@ -74,7 +75,7 @@ fn show(code: Code, kept: bool) {
     ];
     let mut line = [0u8; CASE_BYTES];
     field_writer::put_line(&numbers, &mut line);
-    io::write_all(STDOUT_FILENO, &line);
+    let _ = to.write_all(&line);
 }
 
 // Imports a text into the front of a table's bytes.
@@ -85,7 +86,7 @@ fn import_front(text: &[u8], out: &mut [u8], room: usize) -> Code
 }
 
 // Imports a text, reads the table that was written, and prints it.
-fn import_case(text: &[u8], room: usize)
+fn import_case(to: Stdout, text: &[u8], room: usize)
     requires { room ≤ 17000 }
 {
     let mut out = byte_memory();
@@ -96,28 +97,28 @@ fn import_case(text: &[u8], room: usize)
     }
     let bytes = FACT_BYTES * n;
     let accepted = is_accepted(&out[0..bytes], code.count);
-    show(code, bytes_kept(&out, bytes) & accepted);
-    io::write_all(STDOUT_FILENO, &out[0..bytes]);
+    show(to, code, bytes_kept(&out, bytes) & accepted);
+    let _ = to.write_all(&out[0..bytes]);
 }
 
 // Puts bytes into a text from a place on.
 fn put_at(bytes: &[u8], text: &mut [u8], at: usize)
     requires { at + length bytes.now ≤ length text.old }
 {
-    bytes::copy(bytes, &mut text[at..]);
+    text[at..at + bytes.len()].copy_from_slice(bytes);
 }
 
 // Imports the text of so many equal bytes and then some more.
-fn text_case(byte: u8, times: usize, more: &[u8], room: usize)
+fn text_case(to: Stdout, byte: u8, times: usize, more: &[u8], room: usize)
     requires { (times + length more.now ≤ 65537) × (room ≤ 17000) }
 {
     let mut text = text_memory(byte);
     put_at(more, &mut text, times);
-    import_case(&text[0..times + more.len()], room);
+    import_case(to, &text[0..times + more.len()], room);
 }
 
 // Runs the case at a place, and gives where the next begins; what is no case ends the run.
-fn run_case(input: &[u8], at: usize) -> usize
+fn run_case(input: &[u8], at: usize, to: Stdout) -> usize
     requires { at + 21 ≤ length input.now }
     ensures { (at < result) × (result ≤ length input.now) }
 {
@@ -136,23 +137,24 @@ fn run_case(input: &[u8], at: usize) -> usize
     let next = from + follow;
     if times + follow <= TEXT_BYTES {
         if room <= BYTES {
-            text_case((byte % 256) as u8, times, &input[from..next], room);
+            text_case(to, (byte % 256) as u8, times, &input[from..next], room);
         }
     }
     next
 }
 
 // Runs the cases one after the other.
-fn run(input: &[u8]) {
+fn run(input: &[u8], to: Stdout) {
     let mut at = 0;
     while CASE_BYTES <= input.len() - at {
-        at = run_case(input, at);
+        at = run_case(input, at, to);
     }
 }
 
 // Reads the cases and runs them.
-fn main() {
+fn main(rt: HostRuntime) -> io::Result<()> {
     let mut input = input_memory();
-    let n = io::read_full(STDIN_FILENO, &mut input);
-    run(&input[..n]);
+    let n = stream_reader::read_full(&mut rt.stdin(), &mut input)?;
+    run(&input[..n], rt.stdout());
+    Ok(())
 }

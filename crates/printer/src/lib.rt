@@ -1,4 +1,4 @@
-// What the program prints for an input (document 01, "Panel and program"), to standard output, piece by piece. What the pieces
+// What the program prints for an input (document 01, "Panel and program"), to a writer, piece by piece. What the pieces
 // are is said by `batch`. A contract can't say what is written: here the number of bytes that is returned is proved, and the
 // bytes themselves are seen by running.
 #![tactic(auto)]
@@ -9,8 +9,8 @@ ghost use Rattle.printer.specs.Replies.{Counted, CountedReplies};
 
 use batch::Input;
 use facts::{Answer, Refusal};
-use libc::STDOUT_FILENO;
 use replies::REPLY_BYTES;
+use std::io::Write;
 
 // Whether all was written, and the bytes of the pieces that were. Where a write failed, nothing more was tried.
 #[derive(Clone, Copy)]
@@ -27,7 +27,7 @@ fn reply_space() -> [u8; REPLY_BYTES]
 }
 
 // Prints the reply to each question, up to the first that can't be written. Only one reply at a time is in memory.
-fn print_replies(input: &[u8], table: usize, questions: usize) -> Printed
+fn print_replies<W: Write>(to: &mut W, input: &[u8], table: usize, questions: usize) -> Printed
     requires { questions ≤ 2048 }
     ensures { CountedReplies input.now table questions result }
 {
@@ -36,7 +36,7 @@ fn print_replies(input: &[u8], table: usize, questions: usize) -> Printed
     let mut k = 0;
     while k < questions {
         let size = replies::reply(input, table, k, &mut out);
-        if !io::write_all(STDOUT_FILENO, &out[..size]) {
+        if to.write_all(&out[..size]).is_err() {
             return Printed {
                 whole: false,
                 bytes: printed,
@@ -52,11 +52,11 @@ fn print_replies(input: &[u8], table: usize, questions: usize) -> Printed
 }
 
 // Prints the one line for a torn input.
-pub fn print_torn() -> Printed
+pub fn print_torn<W: Write>(to: &mut W) -> Printed
     ensures { Counted (code_line (Answer.Refused Refusal.Form 0)) result }
 {
     let line = replies::refusal();
-    if io::write_all(STDOUT_FILENO, &line) {
+    if to.write_all(&line).is_ok() {
         return Printed {
             whole: true,
             bytes: line.len(),
@@ -69,11 +69,11 @@ pub fn print_torn() -> Printed
 }
 
 // Prints the whole output for an input.
-pub fn print_output(input: &[u8]) -> Printed
+pub fn print_output<W: Write>(to: &mut W, input: &[u8]) -> Printed
     ensures { Counted (output_of input.now) result }
 {
     match input::layout(input) {
-        Input::Torn => print_torn(),
-        Input::Parts { table, questions } => print_replies(input, table, questions),
+        Input::Torn => print_torn(to),
+        Input::Parts { table, questions } => print_replies(to, input, table, questions),
     }
 }

@@ -9,7 +9,8 @@ ghost use Rattle.std.specs.Prelude.{◌+◌, ◌≤◌, ◌<◌, length};
 
 use columns::NO_FIELD;
 use facts::Code;
-use libc::{STDIN_FILENO, STDOUT_FILENO};
+use std::io;
+use std::io::Stdout;
 
 // A case's first line: its fields and its bytes.
 const FIELDS: usize = 4;
@@ -87,11 +88,11 @@ fn bytes_kept(bytes: &[u8], from: usize) -> bool
     requires { (from ≤ length bytes.now) × (from ≤ 17000) }
 {
     let before = byte_memory();
-    check::same(&bytes[from..], &before[from..])
+    bytes[from..] == before[from..]
 }
 
 // Prints the last five digits of each number of a case's answer, and whether memory is as it must be.
-fn show(code: Code, kept: bool) {
+fn show(to: Stdout, code: Code, kept: bool) {
     let numbers = [
         code.number % NO_FIELD,
         code.place % NO_FIELD,
@@ -100,7 +101,7 @@ fn show(code: Code, kept: bool) {
     ];
     let mut line = [0u8; CASE_BYTES];
     field_writer::put_line(&numbers, &mut line);
-    io::write_all(STDOUT_FILENO, &line);
+    let _ = to.write_all(&line);
 }
 
 // Reads a table into the front of a row.
@@ -118,7 +119,7 @@ fn write_front(row: &[u32], size: usize, out: &mut [u8], room: usize) -> Code
 }
 
 // Reads a table, and writes the row that was filled again.
-fn read_case(table: &[u8], room: usize)
+fn read_case(to: Stdout, table: &[u8], room: usize)
     requires { room ≤ 4096 }
 {
     let mut row = number_memory();
@@ -131,9 +132,9 @@ fn read_case(table: &[u8], room: usize)
     let bytes = FACT_BYTES * n;
     let mut out = byte_memory();
     let again = write_front(&row, numbers, &mut out, BYTES);
-    let same = (code.number != 0) | check::same(&out[0..bytes], table);
+    let same = (code.number != 0) | (&out[0..bytes] == table);
     let kept = numbers_kept(&row, numbers) & bytes_kept(&out, bytes);
-    show(code, same & kept & (again.number == 0));
+    show(to, code, same & kept & (again.number == 0));
 }
 
 // The number on a line of a row.
@@ -164,7 +165,7 @@ fn fill_row(lines: &[u8], row: &mut [u32]) {
 }
 
 // Writes a row, reads the table that was written again, and prints it.
-fn write_case(lines: &[u8], room: usize, size: usize)
+fn write_case(to: Stdout, lines: &[u8], room: usize, size: usize)
     requires { (room ≤ 17000) × (size ≤ 4096) }
 {
     let mut row = zero_row();
@@ -181,12 +182,12 @@ fn write_case(lines: &[u8], room: usize, size: usize)
     let again = read_front(&out[0..bytes], &mut back, NUMBERS);
     let same = same_numbers(&row[0..numbers], &back[0..numbers]);
     let kept = bytes_kept(&out, bytes) & numbers_kept(&back, numbers);
-    show(code, same & kept & (again.number == 0));
-    io::write_all(STDOUT_FILENO, &out[0..bytes]);
+    show(to, code, same & kept & (again.number == 0));
+    let _ = to.write_all(&out[0..bytes]);
 }
 
 // Runs the case at a place, and gives where the next begins; what is no case ends the run.
-fn run_case(input: &[u8], at: usize) -> usize
+fn run_case(input: &[u8], at: usize, to: Stdout) -> usize
     requires { at + 21 ≤ length input.now }
     ensures { (at < result) × (result ≤ length input.now) }
 {
@@ -205,29 +206,30 @@ fn run_case(input: &[u8], at: usize) -> usize
     let next = from + follow;
     if kind == 1 {
         if room <= NUMBERS {
-            read_case(&input[from..next], room);
+            read_case(to, &input[from..next], room);
         }
         return next;
     }
     if room <= BYTES {
         if size <= NUMBERS {
-            write_case(&input[from..next], room, size);
+            write_case(to, &input[from..next], room, size);
         }
     }
     next
 }
 
 // Runs the cases one after the other.
-fn run(input: &[u8]) {
+fn run(input: &[u8], to: Stdout) {
     let mut at = 0;
     while CASE_BYTES <= input.len() - at {
-        at = run_case(input, at);
+        at = run_case(input, at, to);
     }
 }
 
 // Reads the cases and runs them.
-fn main() {
+fn main(rt: HostRuntime) -> io::Result<()> {
     let mut input = input_memory();
-    let n = io::read_full(STDIN_FILENO, &mut input);
-    run(&input[..n]);
+    let n = stream_reader::read_full(&mut rt.stdin(), &mut input)?;
+    run(&input[..n], rt.stdout());
+    Ok(())
 }
