@@ -71,7 +71,10 @@ fn run_case(input: &[u8], at: usize, to: Stdout) -> usize
     }
     let next = derivation + derivation_bytes;
     let fact = fact_put(input, at + 10);
-    show(to, checker::check(&input[table..derivation], fact, &input[derivation..next]));
+    show(
+        to,
+        checker::check(&input[table..derivation], fact, &input[derivation..next]),
+    );
     next
 }
 

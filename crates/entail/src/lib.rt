@@ -1,6 +1,5 @@
 // The public library: the question, the check, reading, writing and the import as C calls them (document 01, "Panel and program"; document 02,
-// Point 3).
-// A slice is a pointer and then a length; an answer is one number, whose bits the crate `packing` lays out.
+// Point 3). An answer is one number, whose bits the crate `packing` lays out. The crate `entail_c` hands these functions out to C.
 #![tactic(auto)]
 
 ghost use Rattle.std.specs.Prelude.{◌≡◌};
@@ -25,8 +24,7 @@ fn fact_of(subject: u32, predicate: u32, object: u32) -> Fact
 }
 
 // Puts a question, which may have a gap: limit is document 01's allowance, output its paper.
-#[unsafe(no_mangle)]
-pub extern "C" fn factbox_question(
+pub fn factbox_question(
     table: &[u8],
     subject: u32,
     predicate: u32,
@@ -41,8 +39,7 @@ pub extern "C" fn factbox_question(
 }
 
 // Judges a derivation of the fact from the table.
-#[unsafe(no_mangle)]
-pub extern "C" fn factbox_check(
+pub fn factbox_check(
     table: &[u8],
     subject: u32,
     predicate: u32,
@@ -56,24 +53,21 @@ pub extern "C" fn factbox_check(
 }
 
 // Reads a table into a row of three numbers a fact.
-#[unsafe(no_mangle)]
-pub extern "C" fn factbox_read(table: &[u8], row: &mut [u32]) -> u64
+pub fn factbox_read(table: &[u8], row: &mut [u32]) -> u64
     ensures call { ReadCall table.now row.old row.new result }
 {
     pack(reader::read(table, row))
 }
 
 // Writes the table of a row's facts.
-#[unsafe(no_mangle)]
-pub extern "C" fn factbox_write(row: &[u32], output: &mut [u8]) -> u64
+pub fn factbox_write(row: &[u32], output: &mut [u8]) -> u64
     ensures call { WriteCall row.now output.old output.new result }
 {
     pack(writer::write(row, output))
 }
 
 // Imports N-Triples as a table.
-#[unsafe(no_mangle)]
-pub extern "C" fn factbox_import(text: &[u8], table: &mut [u8]) -> u64
+pub fn factbox_import(text: &[u8], table: &mut [u8]) -> u64
     ensures call { ImportCall text.now table.old table.new result }
 {
     pack(importer::import(text, table))

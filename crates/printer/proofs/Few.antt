@@ -24,6 +24,11 @@ pub torn-counted : (b : List ℕ) (r : Printed) → layout_of b ≡ Torn → Cou
 unfolding output_of output_by
 torn-counted b r e c = rw e c
 
+-- and so is what is said of that line
+pub torn-is : (b : List ℕ) (P : List ℕ → Type 0) → layout_of b ≡ Torn → P (code_line (Refused Form 0)) → P (output_of b)
+unfolding output_of output_by
+torn-is b P e p = rw e p
+
 -- items, and those behind them
 items-behind : {A : Type 0} (at : ℕ → A) (k m i : ℕ) → items_from at i (k + m) ≡ items_from at i k ++ items_from at (i + k) m
 unfolding items_from
@@ -54,3 +59,7 @@ replies-counted b size n r e c =
       bytes = c.bytes;
       whole = λ w. let z : m ≡ 0 = omega (arith, c.whole w) in rw z (nothing piece (0 + c.count));
     }
+
+-- what is said of the replies is said of the output
+pub replies-are : (b : List ℕ) (size n : ℕ) (P : List ℕ → Type 0) → layout_of b ≡ Parts size n → P (replies b size n) → P (output_of b)
+replies-are b size n P e p = rw (replies-output b size n 63473 e (omega arith)) p

@@ -3,9 +3,10 @@
 // bytes themselves are seen by running.
 #![tactic(auto)]
 
-ghost use Rattle.std.specs.Prelude.{◌≡◌, ◌≤◌, length};
+ghost use Rattle.std.specs.Prelude.{◌≡◌, true, ◌≤◌, length};
+ghost use Rattle.std.specs.Io.KnownBytes.{Appends};
 ghost use Rattle.batch.specs.Output.{code_line, output_of};
-ghost use Rattle.printer.specs.Replies.{Counted, CountedReplies};
+ghost use Rattle.printer.specs.Replies.{replies, Counted, CountedReplies};
 
 use batch::Input;
 use facts::{Answer, Refusal};
@@ -29,7 +30,8 @@ fn reply_space() -> [u8; REPLY_BYTES]
 // Prints the reply to each question, up to the first that can't be written. Only one reply at a time is in memory.
 fn print_replies<W: Write>(to: &mut W, input: &[u8], table: usize, questions: usize) -> Printed
     requires { questions ≤ 2048 }
-    ensures { CountedReplies input.now table questions result }
+    ensures counted { CountedReplies input.now table questions result }
+    ensures written { result.whole ≡ true → Appends (W.contents to.old) (W.contents to.new) (replies input.now table questions) }
 {
     let mut out = reply_space();
     let mut printed = 0;
@@ -53,7 +55,8 @@ fn print_replies<W: Write>(to: &mut W, input: &[u8], table: usize, questions: us
 
 // Prints the one line for a torn input.
 pub fn print_torn<W: Write>(to: &mut W) -> Printed
-    ensures { Counted (code_line (Answer.Refused Refusal.Form 0)) result }
+    ensures counted { Counted (code_line (Answer.Refused Refusal.Form 0)) result }
+    ensures written { result.whole ≡ true → Appends (W.contents to.old) (W.contents to.new) (code_line (Answer.Refused Refusal.Form 0)) }
 {
     let line = replies::refusal();
     if to.write_all(&line).is_ok() {
@@ -70,7 +73,8 @@ pub fn print_torn<W: Write>(to: &mut W) -> Printed
 
 // Prints the whole output for an input.
 pub fn print_output<W: Write>(to: &mut W, input: &[u8]) -> Printed
-    ensures { Counted (output_of input.now) result }
+    ensures counted { Counted (output_of input.now) result }
+    ensures written { result.whole ≡ true → Appends (W.contents to.old) (W.contents to.new) (output_of input.now) }
 {
     match input::layout(input) {
         Input::Torn => print_torn(to),

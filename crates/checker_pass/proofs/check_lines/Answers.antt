@@ -11,6 +11,7 @@ use Rattle.columns.specs.Lines.{laid_out}
 use Rattle.acceptance.specs.Holds.{row_facts}
 use Rattle.acceptance.proofs.Pass.{Passed, pass-none, pass-end, form-refused, step-refused, pass-more}
 use Rattle.checker_pass.proofs.check_lines.Goals as goal
+use Rattle.checker_pass.proofs.check_lines.Goals.{then-l-eq0, else-l-eq0}
 use Rattle.checker_pass.proofs.check_lines.Goals.{Else-is_torn}
 
 -- what the test for 9 leaves
@@ -41,7 +42,7 @@ loop-i-preserved c =
     let e = j in
     let l = e.loop-i in
     pass-more _ _ _ _ l.invariant (omega arith) e.read_line-l.ensures (laid (goal.at-loop-i-preserved c).Else-is_torn) (sym j.is_justified.ensures ∙ c.if-not-is_justified.false) (omega arith) _
-    (⊎_elim (λ w. w.1 ∙ rw (eq-eqb _ _ w.0.taken)) (λ w. w.1 ∙ rw (ne_eqb _ _ w.0.left, add-zero)) c.if-l-eq0.branch)
+    (elim c.if-l-eq0.branch [ then-l-eq0 w ↦ w.count-is ∙ rw (eq-eqb _ _ w.if-l-eq0.true) | else-l-eq0 w ↦ w.count-is ∙ rw (ne_eqb _ _ w.if-l-eq0.false, add-zero) ])
 
 pub returns : goal.returns
 returns c = c.check_end.ensures ∙ pass-end _ _ _ _ c.loop-i.invariant (omega arith) (omega arith)

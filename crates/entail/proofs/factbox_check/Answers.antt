@@ -1,0 +1,13 @@
+-- `entail::factbox_check` meets its contract: the check's answer, packed.
+-- Assumes nothing.
+use mathlib.Core.Path.{◌∙◌}
+use borrow.Author.Rules.{rules}
+use Rattle.entail.proofs.Small.{check-small}
+use Rattle.entail.proofs.Unpacked.{check-said}
+use Rattle.entail.proofs.factbox_check.Goals as goal
+
+pub pack-requires : goal.pack-requires
+pack-requires c = rw c.check.ensures.call (check-small _ _ _)
+
+pub returns : goal.returns
+returns c = check-said (record { answer = c.pack.ensures ∙ rw (c.check.ensures.call, c.fact_of.ensures) })
