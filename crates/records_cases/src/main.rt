@@ -6,7 +6,8 @@ ghost use Rattle.std.specs.Prelude.{◌+◌, ◌≤◌, ◌<◌, length};
 
 use columns::NO_FIELD;
 use facts::{Answer, Fact};
-use libc::{STDIN_FILENO, STDOUT_FILENO};
+use std::io;
+use std::io::Stdout;
 
 // The fields and bytes of a case's first line, the bytes of an answer, and the most bytes of all cases.
 const HEAD_FIELDS: usize = 2;
@@ -109,7 +110,7 @@ fn are_due(table: &[u8], count: usize, facts: [Fact; RECORDS]) -> bool {
 
 // Reads a table into so many records, and prints the last five digits of each number of the answer, and whether every record is as it
 // must be.
-fn read_case(table: &[u8], lent: usize)
+fn read_case(to: Stdout, table: &[u8], lent: usize)
     requires { lent ≤ 1025 }
 {
     let filled = read_some(table, lent, records_before());
@@ -126,11 +127,11 @@ fn read_case(table: &[u8], lent: usize)
     ];
     let mut line = [0u8; ANSWER_BYTES];
     field_writer::put_line(&numbers, &mut line);
-    io::write_all(STDOUT_FILENO, &line);
+    let _ = to.write_all(&line);
 }
 
 // Runs the case at a place, and gives where the next begins; what is no case ends the run.
-fn run_case(input: &[u8], at: usize) -> usize
+fn run_case(input: &[u8], at: usize, to: Stdout) -> usize
     requires { at + 11 ≤ length input.now }
     ensures { (at < result) × (result ≤ length input.now) }
 {
@@ -148,21 +149,22 @@ fn run_case(input: &[u8], at: usize) -> usize
         return end;
     }
     let next = table + table_bytes;
-    read_case(&input[table..next], lent);
+    read_case(to, &input[table..next], lent);
     next
 }
 
 // Runs the cases one after the other.
-fn run(input: &[u8]) {
+fn run(input: &[u8], to: Stdout) {
     let mut at = 0;
     while HEAD_BYTES <= input.len() - at {
-        at = run_case(input, at);
+        at = run_case(input, at, to);
     }
 }
 
 // Reads the cases and runs them.
-fn main() {
+fn main(rt: HostRuntime) -> io::Result<()> {
     let mut input = input_space();
-    let n = io::read_full(STDIN_FILENO, &mut input);
-    run(&input[..n]);
+    let n = stream_reader::read_full(&mut rt.stdin(), &mut input)?;
+    run(&input[..n], rt.stdout());
+    Ok(())
 }
