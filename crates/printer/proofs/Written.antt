@@ -1,6 +1,6 @@
 -- What a writer holds behind a piece that it took.
 -- Assumes nothing.
-use Rattle.std.proofs.Common.{◌≡◌, Bool, true, false, ℕ, List, [], ◌++◌, length, take, refl, sym, ap, ◌∙◌, subst, append_assoc, append-nil}
+use Rattle.std.proofs.Common.{◌≡◌, true, false, ℕ, List, ◌++◌, length, take, subst}
 use lib.Seq.{take-append_seam}
 use Rattle.std.specs.declared.option.Option.{Option}
 use Rattle.std.specs.Result.{is_ok, is_err, OnOk}

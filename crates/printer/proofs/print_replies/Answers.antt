@@ -1,6 +1,6 @@
 -- `printer::print_replies` meets its contract: a reply that was written stands behind those before it.
 -- Assumes nothing.
-use Rattle.std.proofs.Common.{rules, arith, ◌≡◌, ◌≤◌, ℕ, length, refl, ap, ◌∙◌}
+use Rattle.std.proofs.Common.{rules, arith, ◌≡◌, ◌≤◌, length, refl, ap, ◌∙◌}
 use lib.ListN.{length-append}
 use Rattle.std.proofs.KnownBytes.{Appends-nil}
 use Rattle.columns.specs.Lines.{flat, items_from}
