@@ -1,6 +1,6 @@
-// What the program prints for an input (document 01, "Panel and program"), to a writer, piece by piece. What the pieces
-// are is said by `batch`. A contract can't say what is written: here the number of bytes that is returned is proved, and the
-// bytes themselves are seen by running.
+// What the program prints for an input (document 01, "Panel and program"), to a writer, piece by piece. What the pieces are is said by
+// `batch`. The contracts say how many bytes were printed, and, of a writer of which it is known what it holds, that all of them came to
+// stand there. What standard output passes on no contract can say: that is seen by running.
 #![tactic(auto)]
 
 ghost use Rattle.std.specs.Prelude.{◌≡◌, true, ◌≤◌, length};

@@ -1,0 +1,10 @@
+-- `factbox_cases::main` ends: each turn leaves one input less.
+-- Assumes nothing.
+use Rattle.std.proofs.Common.{◌≤◌}
+use Rattle.factbox_cases.proofs.main.Given as goal
+
+abbrev pub invariant-loop-left : goal.invariant-loop-left
+invariant-loop-left l = l.left ≤ 1000
+
+abbrev pub decreases-loop-left : goal.decreases-loop-left
+decreases-loop-left l = l.left
