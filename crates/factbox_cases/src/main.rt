@@ -4,6 +4,7 @@
 
 ghost use Rattle.std.specs.Prelude.{◌≡◌, length};
 
+use std::io;
 use std::io::{Read, Write};
 
 // The bytes of a line with a length; the most bytes of an input, and one more; the most inputs.
@@ -20,37 +21,38 @@ fn input_space() -> [u8; INPUT_SPACE]
     [0u8; INPUT_SPACE]
 }
 
-// Reads one input into memory of its length and prints its output.
-fn run_input<R: Read, W: Write>(from: &mut R, to: &mut W, input: &mut [u8]) {
-    if let Ok(size) = stream_reader::read_full(from, input) {
-        let _printed = printer::print_output(to, &input[..size]);
-    }
+// Reads one input into memory of its length and prints its output. A read that fails ends it with that error.
+fn run_input<R: Read, W: Write>(from: &mut R, to: &mut W, input: &mut [u8]) -> io::Result<()> {
+    let size = stream_reader::read_full(from, input)?;
+    let _printed = printer::print_output(to, &input[..size]);
+    Ok(())
 }
 
 // Runs the next input; false where none is left.
-fn run_next<R: Read, W: Write>(from: &mut R, to: &mut W) -> bool {
+fn run_next<R: Read, W: Write>(from: &mut R, to: &mut W) -> io::Result<bool> {
     let mut header = [0u8; HEADER];
-    let Ok(HEADER) = stream_reader::read_full(from, &mut header) else {
-        return false;
-    };
+    if stream_reader::read_full(from, &mut header)? < HEADER {
+        return Ok(false);
+    }
     let n = digit_reader::number_at(&header, 0) as usize;
     let mut input = input_space();
     if INPUT_SPACE < n {
-        return false;
+        return Ok(false);
     }
-    run_input(from, to, &mut input[0..n]);
-    true
+    run_input(from, to, &mut input[0..n])?;
+    Ok(true)
 }
 
 // Runs the inputs one after the other.
-fn main(rt: HostRuntime) {
+fn main(rt: HostRuntime) -> io::Result<()> {
     let mut from = rt.stdin();
     let mut to = rt.stdout();
     let mut left = INPUTS;
     while 0 < left {
-        if !run_next(&mut from, &mut to) {
-            return;
+        if !run_next(&mut from, &mut to)? {
+            return Ok(());
         }
         left -= 1;
     }
+    Ok(())
 }

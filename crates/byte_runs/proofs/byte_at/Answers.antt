@@ -3,7 +3,6 @@
 use mathlib.Core.Path.{sym}
 use lib.ListN.{get_or-eq_default}
 use Rattle.ntriples.proofs.Lexed.{any-default}
-use borrow.Author.Rules.{rules}
 use Rattle.byte_runs.proofs.byte_at.Goals as goal
 
 pub returns-then-at-s : goal.returns-then-at-s

@@ -1,7 +1,6 @@
 -- `byte_runs::is_of` meets its contract: an arm for each class.
 -- Assumes nothing.
 use Rattle.ntriples.specs.Classes.{belongs}
-use borrow.Author.Rules.{rules}
 use Rattle.byte_runs.proofs.is_of.Goals as goal
 
 pub returns-in-White : goal.returns-in-White

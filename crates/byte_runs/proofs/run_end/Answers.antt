@@ -1,13 +1,8 @@
 -- `byte_runs::run_end` meets its contract. The loop's invariant: the run from the start ends where the run from i does.
 -- Assumes nothing.
-use mathlib.Core.Path.{◌≡◌, refl, sym, ap, ◌∙◌}
-use Prim.Native.Nat.{◌-◌}
+use mathlib.Core.Path.{refl, sym, ap, ◌∙◌}
 use native.Mathlib.Omega.{arith}
-use lib.ListN.{length}
-use borrow.Author.Tests.{not-true, not-false}
-use borrow.Author.Rules.{rules}
 use Rattle.ntriples.specs.Classes.{belongs}
-use Rattle.ntriples.specs.Lexed.{run_end}
 use Rattle.ntriples.proofs.Lexed.{any-default, run-over, run-stops, run-goes-on}
 use Rattle.byte_runs.proofs.run_end.Goals as goal
 

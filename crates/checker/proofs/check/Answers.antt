@@ -2,7 +2,6 @@
 -- Assumes nothing.
 use mathlib.Core.Path.{sym, ◌∙◌}
 use native.Mathlib.Omega.{arith}
-use borrow.Author.Rules.{rules}
 use Rattle.table.specs.Tables.{table_of}
 use Rattle.table.proofs.Rows.{scan-passes, scan-stops}
 use Rattle.acceptance.specs.Check.{check_answer, table_answer, fact_answer}

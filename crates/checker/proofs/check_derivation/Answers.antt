@@ -3,7 +3,6 @@
 use native.Mathlib.Omega.{arith}
 use lib.ListN.{length}
 use borrow.Author.Tests.{lt-ltb, le-ltb}
-use borrow.Author.Rules.{rules}
 use Rattle.table.proofs.Rows.{sized-torn, sized-large, sized-fits}
 use Rattle.acceptance.specs.Check.{derivation_answer}
 use Rattle.acceptance.proofs.Sizes.{nonempty}

@@ -1,7 +1,6 @@
 -- `checker_lines::holds` meets its contract: a fact that the row has stands right behind those before it.
 -- Assumes nothing.
 use mathlib.Core.Path.{◌∙◌}
-use borrow.Author.Rules.{rules}
 use Rattle.acceptance.proofs.Lookup.{holds-none, holds-here}
 use Rattle.checker_lines.proofs.holds.Goals as goal
 

@@ -1,7 +1,6 @@
 -- `checker_lines::is_justified` meets its contract: the line's mark decides which test it gets.
 -- Assumes nothing.
 use borrow.Author.Tests.{eq-eqb, ne_eqb}
-use borrow.Author.Rules.{rules}
 use Rattle.rules.specs.Steps.{justified}
 use Rattle.checker_lines.proofs.is_justified.Goals as goal
 

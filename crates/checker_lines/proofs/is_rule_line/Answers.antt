@@ -1,6 +1,5 @@
 -- `checker_lines::is_rule_line` meets its contract: a premise that is not among the lines before has no fact.
 -- Assumes nothing.
-use borrow.Author.Rules.{rules}
 use Rattle.rules.specs.Steps.{step_from}
 use Rattle.acceptance.proofs.Lines.{fact_on-zero, fact-there, fact-missing}
 use Rattle.checker_lines.proofs.is_rule_line.Goals as goal

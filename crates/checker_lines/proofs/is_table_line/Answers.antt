@@ -1,7 +1,6 @@
 -- `checker_lines::is_table_line` meets its contract: each test in turn.
 -- Assumes nothing.
 use borrow.Author.Tests.{eq-eqb, ne_eqb}
-use borrow.Author.Rules.{rules}
 use Rattle.checker_lines.proofs.is_table_line.Goals as goal
 
 pub returns-then-l-ne0 : goal.returns-then-l-ne0

@@ -1,16 +1,9 @@
 -- `checker_lines::lower_bound` meets its contract. The loop's invariant: facts below `lo` come before f, and those from `hi` on do not.
 -- Assumes nothing.
-use mathlib.Core.Path.{◌≡◌, sym, ◌∙◌}
-use mathlib.Core.Bool.{true, false}
-use Prim.Native.Nat.{ℕ, ◌+◌, ◌-◌, ◌/◌, ◌≤◌, ◌<◌}
-use native.Mathlib.Omega.{arith}
-use native.Mathlib.Numerals.{add-one}
+use Prim.Native.Nat.{ℕ, ◌-◌, ◌≤◌, ◌<◌}
 use lib.Dec.{T}
-use borrow.Author.Rules.{rules}
 use Rattle.facts.specs.Facts.{before}
-use Rattle.facts.proofs.Terms.{T_of}
 use Rattle.table.specs.Tables.{row_fact}
-use Rattle.acceptance.proofs.Lookup.{below-cut, above-cut}
 use Rattle.checker_lines.proofs.lower_bound.Given as goal
 
 abbrev pub invariant-loop-lo : goal.invariant-loop-lo

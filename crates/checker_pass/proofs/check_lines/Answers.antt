@@ -1,15 +1,13 @@
 -- `checker_pass::check_lines` meets its contract. The loop's invariant: the lines before the one reached are passed.
 -- Assumes nothing.
 use mathlib.Core.Path.{◌≡◌, sym, ◌∙◌}
-use mathlib.Core.Logic.{⊎_elim}
 use mathlib.Core.Bool.{true}
-use Prim.Native.Nat.{◌-◌, ◌*◌}
+use Prim.Native.Nat.{◌*◌}
 use native.Mathlib.Omega.{arith}
 use native.Mathlib.Nat.{add-zero}
 use borrow.Author.Tests.{eq-eqb, ne_eqb, not-true, not-false}
 use Rattle.columns.specs.Lines.{laid_out}
-use Rattle.acceptance.specs.Holds.{row_facts}
-use Rattle.acceptance.proofs.Pass.{Passed, pass-none, pass-end, form-refused, step-refused, pass-more}
+use Rattle.acceptance.proofs.Pass.{pass-none, pass-end, form-refused, step-refused, pass-more}
 use Rattle.checker_pass.proofs.check_lines.Goals as goal
 use Rattle.checker_pass.proofs.check_lines.Goals.{then-l-eq0, else-l-eq0}
 use Rattle.checker_pass.proofs.check_lines.Goals.{Else-is_torn}

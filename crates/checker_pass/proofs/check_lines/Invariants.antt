@@ -1,15 +1,8 @@
 -- `checker_pass::check_lines` meets its contract. The loop's invariant: the lines before the one reached are passed.
 -- Assumes nothing.
-use mathlib.Core.Path.{◌≡◌, sym, ◌∙◌}
-use mathlib.Core.Logic.{⊎_elim}
-use mathlib.Core.Bool.{true}
-use Prim.Native.Nat.{◌-◌, ◌*◌}
-use native.Mathlib.Omega.{arith}
-use native.Mathlib.Nat.{add-zero}
-use borrow.Author.Tests.{eq-eqb, ne_eqb, not-true, not-false}
-use Rattle.columns.specs.Lines.{laid_out}
+use Prim.Native.Nat.{◌-◌}
 use Rattle.acceptance.specs.Holds.{row_facts}
-use Rattle.acceptance.proofs.Pass.{Passed, pass-none, pass-end, form-refused, step-refused, pass-more}
+use Rattle.acceptance.proofs.Pass.{Passed}
 use Rattle.checker_pass.proofs.check_lines.Given as goal
 
 abbrev pub invariant-loop-i : goal.invariant-loop-i

@@ -1,6 +1,5 @@
 -- `checker_refusals::check_end` meets its contract: the last line's fact is held against the fact put.
 -- Assumes nothing.
-use borrow.Author.Rules.{rules}
 use Rattle.checker_refusals.proofs.check_end.Goals as goal
 
 pub returns-then-is_same : goal.returns-then-is_same

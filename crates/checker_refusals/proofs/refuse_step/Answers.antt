@@ -1,7 +1,6 @@
 -- `checker_refusals::refuse_step` meets its contract: 10 is answered where the scan of the later lines finds no 9.
 -- Assumes nothing.
 use mathlib.Core.Path.{sym, ◌∙◌}
-use borrow.Author.Rules.{rules}
 use Rattle.acceptance.specs.Check.{after}
 use Rattle.checker_refusals.proofs.refuse_step.Goals as goal
 

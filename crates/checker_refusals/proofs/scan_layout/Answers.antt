@@ -2,11 +2,9 @@
 -- Assumes nothing.
 use mathlib.Core.Path.{◌≡◌, refl, sym, ◌∙◌}
 use mathlib.Core.Bool.{true, false}
-use Prim.Native.Nat.{◌-◌, ◌*◌, ◌≤◌}
+use Prim.Native.Nat.{◌*◌}
 use native.Mathlib.Omega.{arith}
-use borrow.Author.Tests.{not-true, not-false}
 use Rattle.columns.specs.Lines.{laid_out}
-use Rattle.table.specs.Scans.{scan}
 use Rattle.table.proofs.Scans.{scan-on, scan-stop, scan-end}
 use Rattle.acceptance.specs.Check.{form_verdict}
 use Rattle.checker_refusals.proofs.scan_layout.Goals as goal

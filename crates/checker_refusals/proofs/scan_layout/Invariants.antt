@@ -1,13 +1,8 @@
 -- `checker_refusals::scan_layout` meets its contract. The loop's invariant: the scan goes on from the line reached.
 -- Assumes nothing.
-use mathlib.Core.Path.{◌≡◌, refl, sym, ◌∙◌}
-use mathlib.Core.Bool.{true, false}
-use Prim.Native.Nat.{◌-◌, ◌*◌, ◌≤◌}
-use native.Mathlib.Omega.{arith}
-use borrow.Author.Tests.{not-true, not-false}
-use Rattle.columns.specs.Lines.{laid_out}
+use mathlib.Core.Path.{◌≡◌}
+use Prim.Native.Nat.{◌-◌, ◌≤◌}
 use Rattle.table.specs.Scans.{scan}
-use Rattle.table.proofs.Scans.{scan-on, scan-stop, scan-end}
 use Rattle.acceptance.specs.Check.{form_verdict}
 use Rattle.checker_refusals.proofs.scan_layout.Given as goal
 

@@ -1,6 +1,5 @@
 -- `derivation_lines::fact_at` meets its contract: three fields are read.
 -- Assumes nothing.
-use borrow.Author.Rules.{rules}
 use Rattle.derivation.specs.Bytes.{line_at}
 use Rattle.derivation_lines.proofs.fact_at.Goals as goal
 

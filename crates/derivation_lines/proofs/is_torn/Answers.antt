@@ -3,7 +3,6 @@
 use mathlib.Core.Bool.{or_assoc}
 use Prim.Native.Nat.{◌*◌}
 use native.Mathlib.Nat.{add_assoc}
-use borrow.Author.Rules.{rules}
 use Rattle.columns.proofs.Torn.{lacking, torn-line}
 use Rattle.derivation.specs.Read.{read_at}
 use Rattle.derivation_lines.proofs.is_torn.Goals as goal

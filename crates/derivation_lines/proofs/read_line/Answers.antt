@@ -1,6 +1,5 @@
 -- `derivation_lines::read_line` meets its contract: six fields are read.
 -- Assumes nothing.
-use borrow.Author.Rules.{rules}
 use Rattle.derivation.specs.Read.{read_at}
 use Rattle.derivation_lines.proofs.read_line.Goals as goal
 

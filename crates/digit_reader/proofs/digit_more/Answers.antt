@@ -2,7 +2,6 @@
 -- Assumes nothing.
 use mathlib.Core.Path.{sym, ◌∙◌}
 use native.Mathlib.Omega.{arith}
-use borrow.Author.Rules.{rules}
 use Rattle.columns.proofs.Columns.{more-none, more-some, digit-most}
 use Rattle.digit_reader.proofs.digit_more.Goals as goal
 

@@ -1,7 +1,6 @@
 -- `digit_reader::first_digit` meets its contract: a digit other than 0, or not.
 -- Assumes nothing.
 use native.Mathlib.Omega.{arith}
-use borrow.Author.Rules.{rules}
 use Rattle.columns.proofs.Columns.{digit-below, digit-above, digit-some, first-none, first_some}
 use Rattle.digit_reader.proofs.first_digit.Goals as goal
 

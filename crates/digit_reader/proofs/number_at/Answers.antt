@@ -1,6 +1,5 @@
 -- `digit_reader::number_at` meets its contract: the columns are joined from the left.
 -- Assumes nothing.
-use borrow.Author.Rules.{rules}
 use Rattle.columns.specs.Fields.{number_at}
 use Rattle.digit_reader.proofs.number_at.Goals as goal
 

@@ -1,7 +1,6 @@
 -- `digit_reader::with_digit` meets its contract: a digit or not.
 -- Assumes nothing.
 use native.Mathlib.Omega.{arith}
-use borrow.Author.Rules.{rules}
 use Rattle.columns.proofs.Columns.{digit-below, digit-above, digit-some}
 use Rattle.digit_reader.proofs.with_digit.Goals as goal
 

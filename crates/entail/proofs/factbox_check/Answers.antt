@@ -1,7 +1,6 @@
 -- `entail::factbox_check` meets its contract: the check's answer, packed.
 -- Assumes nothing.
 use mathlib.Core.Path.{◌∙◌}
-use borrow.Author.Rules.{rules}
 use Rattle.entail.proofs.Small.{check-small}
 use Rattle.entail.proofs.Unpacked.{check-said}
 use Rattle.entail.proofs.factbox_check.Goals as goal

@@ -1,7 +1,6 @@
 -- `entail::factbox_import` meets its contract: the import's own answer, packed.
 -- Assumes nothing.
 use mathlib.Core.Path.{◌∙◌}
-use borrow.Author.Rules.{rules}
 use Rattle.entail.proofs.Small.{import-small}
 use Rattle.entail.proofs.factbox_import.Goals as goal
 

@@ -1,7 +1,6 @@
 -- `entail::factbox_question` meets its contract: the question's answer, packed.
 -- Assumes nothing.
 use mathlib.Core.Path.{◌∙◌}
-use borrow.Author.Rules.{rules}
 use Rattle.entail.proofs.Small.{question-small}
 use Rattle.entail.proofs.Unpacked.{question-said}
 use Rattle.entail.proofs.factbox_question.Goals as goal

@@ -1,7 +1,6 @@
 -- `entail::factbox_read` meets its contract: the table's own answer, packed.
 -- Assumes nothing.
 use mathlib.Core.Path.{◌∙◌}
-use borrow.Author.Rules.{rules}
 use Rattle.entail.proofs.Small.{read_small}
 use Rattle.entail.proofs.factbox_read.Goals as goal
 

@@ -1,7 +1,6 @@
 -- `entail::factbox_write` meets its contract: the table's own answer, packed.
 -- Assumes nothing.
 use mathlib.Core.Path.{◌∙◌}
-use borrow.Author.Rules.{rules}
 use Rattle.entail.proofs.Small.{write-small}
 use Rattle.entail.proofs.factbox_write.Goals as goal
 

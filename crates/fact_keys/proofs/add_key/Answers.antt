@@ -1,11 +1,9 @@
 -- `fact_keys::add_key` meets its contract.
 -- Assumes nothing.
 use mathlib.Core.Path.{◌≡◌, sym, ◌∙◌}
-use mathlib.Core.Logic.{⊎_elim}
 use Prim.Native.Nat.{◌<◌}
 use native.Mathlib.Omega.{arith}
 use lib.ListN.{get_or}
-use borrow.Author.Rules.{rules}
 use Rattle.gathering.specs.Keys.{key_of, Cut}
 use Rattle.gathering.proofs.Keys.{keys-rise, adds-held, adds-new}
 use Rattle.fact_keys.proofs.add_key.Goals as goal

@@ -1,10 +1,7 @@
 -- `fact_keys::cut_key` meets its contract. The loop's invariant: keys below `lo` are below the key, and those from `hi` on are not.
 -- Assumes nothing.
-use Prim.Native.Nat.{ℕ, ◌+◌, ◌-◌, ◌/◌, ◌≤◌, ◌<◌}
-use native.Mathlib.Omega.{arith}
-use native.Mathlib.Numerals.{add-one}
+use Prim.Native.Nat.{ℕ, ◌-◌, ◌≤◌, ◌<◌}
 use lib.ListN.{get_or}
-use Rattle.ordered.proofs.Rising.{below-cut, above-cut}
 use Rattle.fact_keys.proofs.cut_key.Given as goal
 
 abbrev pub invariant-loop-lo : goal.invariant-loop-lo

@@ -1,7 +1,6 @@
 -- `fact_keys::fact_of_key` meets its contract.
 -- Assumes nothing.
 use mathlib.Core.Path.{refl}
-use borrow.Author.Rules.{rules}
 use Rattle.gathering.specs.Keys.{fact_of_key}
 use Rattle.fact_keys.proofs.fact_of_key.Goals as goal
 

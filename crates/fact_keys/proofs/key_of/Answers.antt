@@ -1,7 +1,6 @@
 -- `fact_keys::key_of` meets its contract.
 -- Assumes nothing.
 use mathlib.Core.Path.{refl}
-use borrow.Author.Rules.{rules}
 use Rattle.gathering.specs.Keys.{key_of}
 use Rattle.fact_keys.proofs.key_of.Goals as goal
 

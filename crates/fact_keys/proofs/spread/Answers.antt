@@ -1,10 +1,10 @@
 -- `fact_keys::spread` meets its contract. The loop's invariant: the facts of the keys passed stand over the front of the row.
 -- Assumes nothing.
 use mathlib.Core.Path.{◌≡◌, refl, ◌∙◌}
-use Prim.Native.Nat.{ℕ, ◌-◌, ◌*◌, ◌≤◌}
+use Prim.Native.Nat.{ℕ, ◌*◌}
 use native.Mathlib.Omega.{arith}
 use lib.ListN.{length, get_or}
-use Rattle.columns.specs.Lines.{over, flat, items_from}
+use Rattle.columns.specs.Lines.{flat, items_from}
 use Rattle.columns.proofs.Lists.{items-length, flat-more}
 use Rattle.columns.proofs.Parts.{over-more}
 use Rattle.facts.specs.declared.Fact.{Fact}

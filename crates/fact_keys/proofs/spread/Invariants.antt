@@ -1,17 +1,11 @@
 -- `fact_keys::spread` meets its contract. The loop's invariant: the facts of the keys passed stand over the front of the row.
 -- Assumes nothing.
-use mathlib.Core.Path.{◌≡◌, refl, ◌∙◌}
-use Prim.Native.Nat.{ℕ, ◌-◌, ◌*◌, ◌≤◌}
-use native.Mathlib.Omega.{arith}
+use mathlib.Core.Path.{◌≡◌}
+use Prim.Native.Nat.{◌-◌, ◌≤◌}
 use lib.ListN.{length, get_or}
-use Rattle.columns.specs.Lines.{over, flat, items_from}
-use Rattle.columns.proofs.Lists.{items-length, flat-more}
-use Rattle.columns.proofs.Parts.{over-more}
-use Rattle.facts.specs.declared.Fact.{Fact}
-use Rattle.table.specs.Tables.{terms, row_of}
-use Rattle.table.proofs.Rows.{row-length}
+use Rattle.columns.specs.Lines.{over, items_from}
+use Rattle.table.specs.Tables.{row_of}
 use Rattle.gathering.specs.Keys.{fact_of_key}
-use Rattle.gathering.proofs.Keys.{facts-back}
 use Rattle.fact_keys.proofs.spread.Given as goal
 
 abbrev pub invariant-loop-i : goal.invariant-loop-i

@@ -1,6 +1,5 @@
 -- `fact_tests::has_blank` meets its contract: the three terms' kinds are asked.
 -- Assumes nothing.
-use borrow.Author.Rules.{rules}
 use Rattle.facts.specs.Facts.{has_blank}
 use Rattle.fact_tests.proofs.has_blank.Goals as goal
 

@@ -1,6 +1,5 @@
 -- `fact_tests::has_no_term` meets its contract: the three terms' kinds are asked.
 -- Assumes nothing.
-use borrow.Author.Rules.{rules}
 use Rattle.facts.specs.Facts.{has_no_term}
 use Rattle.fact_tests.proofs.has_no_term.Goals as goal
 

@@ -1,6 +1,5 @@
 -- `fact_tests::is_misplaced` meets its contract: the three terms' kinds are asked.
 -- Assumes nothing.
-use borrow.Author.Rules.{rules}
 use Rattle.facts.specs.Facts.{misplaced}
 use Rattle.fact_tests.proofs.is_misplaced.Goals as goal
 

@@ -1,6 +1,5 @@
 -- `fact_tests::is_text_as_class` meets its contract: subject and object, each with what the predicate asks of it.
 -- Assumes nothing.
-use borrow.Author.Rules.{rules}
 use Rattle.facts.specs.Facts.{text_as_class}
 use Rattle.fact_tests.proofs.is_text_as_class.Goals as goal
 

@@ -1,6 +1,5 @@
 -- `fact_tests::names_object` meets its contract: those of `names_subject`, and type.
 -- Assumes nothing.
-use borrow.Author.Rules.{rules}
 use Rattle.facts.specs.Facts.{named_object}
 use Rattle.fact_tests.proofs.names_object.Goals as goal
 

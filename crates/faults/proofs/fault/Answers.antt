@@ -1,6 +1,5 @@
 -- `faults::fault` meets its contract: the verdict on a fact with none before it.
 -- Assumes nothing.
-use borrow.Author.Rules.{rules}
 use mathlib.Core.Path.{◌∙◌}
 use Rattle.facts.proofs.Facts.{verdict-alone}
 use Rattle.faults.proofs.fault.Goals as goal

@@ -1,6 +1,5 @@
 -- `faults::order` meets its contract: the two cases.
 -- Assumes nothing.
-use borrow.Author.Tests.{not-true, not-false}
 use Rattle.facts.specs.Facts.{order_of}
 use Rattle.faults.proofs.order.Goals as goal
 

@@ -1,6 +1,5 @@
 -- `faults::verdict` meets its contract: a well-formed fact that ascends earns nothing, any other 3, 4, 5, 12 in this order, and 6 is left.
 -- Assumes nothing.
-use borrow.Author.Rules.{rules}
 use mathlib.Core.Path.{sym, ◌∙◌}
 use Rattle.facts.specs.Facts.{verdict_of}
 use Rattle.facts.proofs.Facts.{verdict-sound, left-order}

@@ -3,7 +3,6 @@
 use mathlib.Core.Path.{◌≡◌, sym, ◌∙◌}
 use Prim.Native.Nat.{ℕ}
 use lib.ListN.{drop}
-use borrow.Author.Rules.{rules}
 use Rattle.columns.specs.Fields.{field_at}
 use Rattle.columns.proofs.Columns.{more_digits, scanned, space-scanned, digit-scanned, bytes, field-scanned}
 use Rattle.field_reader.proofs.field_at.Goals as goal

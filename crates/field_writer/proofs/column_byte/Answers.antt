@@ -2,7 +2,6 @@
 -- Assumes nothing.
 use native.Mathlib.Omega.{arith}
 use borrow.Author.Tests.{eq-eqb, ne_eqb}
-use borrow.Author.Rules.{rules}
 use Rattle.columns.specs.Fields.{column}
 use Rattle.field_writer.proofs.column_byte.Goals as goal
 

@@ -5,7 +5,6 @@ use Prim.Native.Nat.{◌-◌, ◌*◌, ◌/◌, ◌%◌}
 use native.Mathlib.Omega.{arith}
 use native.Mathlib.Numerals.{towards_suc}
 use lib.ListN.{length-set}
-use borrow.Author.Rules.{rules}
 use Rattle.columns.specs.Fields.{field}
 use Rattle.columns.proofs.Fields.{field-digit}
 use Rattle.field_writer.proofs.put_field.Goals as goal

@@ -1,16 +1,9 @@
 -- `field_writer::put_line` meets its contract. The loop's invariant: the fields of the numbers passed stand over the front of the output.
 -- Assumes nothing.
-use mathlib.Core.Path.{◌≡◌, refl, ap, ◌∙◌}
-use mathlib.Core.List.{[], ◌∷◌}
+use mathlib.Core.Path.{◌≡◌}
 use Prim.Native.Nat.{◌-◌, ◌*◌, ◌≤◌}
-use native.Mathlib.Numerals.{add-one}
-use native.Mathlib.Omega.{arith}
-use lib.Seq.{sets, length-take-le, take-length}
-use lib.ListN.{length, take, get_or, set, length-set}
-use Rattle.columns.proofs.Lines.{field-length, fields-length, fields-more, below_at}
-use Rattle.columns.proofs.Parts.{over-more}
-use Rattle.columns.specs.Fields.{field}
-use Rattle.columns.specs.Lines.{fields, line, over}
+use lib.ListN.{length, take}
+use Rattle.columns.specs.Lines.{fields, over}
 use Rattle.field_writer.proofs.put_line.Given as goal
 
 abbrev pub invariant-loop-i : goal.invariant-loop-i

@@ -1,6 +1,5 @@
 -- `gaps::filled_by` meets its contract: subject and object, each a term or what is put in.
 -- Assumes nothing.
-use borrow.Author.Rules.{rules}
 use Rattle.facts.specs.Gaps.{filled_by}
 use Rattle.gaps.proofs.filled_by.Goals as goal
 

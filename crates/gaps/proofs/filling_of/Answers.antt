@@ -1,6 +1,5 @@
 -- `gaps::filling_of` meets its contract: the two places of a gap.
 -- Assumes nothing.
-use borrow.Author.Rules.{rules}
 use mathlib.Core.Path.{sym, ◌∙◌}
 use Rattle.facts.specs.Gaps.{filling_of}
 use Rattle.gaps.proofs.filling_of.Goals as goal

@@ -1,6 +1,5 @@
 -- `gaps::is_blank_refused` meets its contract: the three terms are asked.
 -- Assumes nothing.
-use borrow.Author.Rules.{rules}
 use Rattle.facts.specs.Gaps.{blank_refused}
 use Rattle.gaps.proofs.is_blank_refused.Goals as goal
 

@@ -1,7 +1,6 @@
 -- `gaps::question_fault` meets its contract: 3, then 4 is tried, and then what is earned with a name in the gap.
 -- Assumes nothing.
 use mathlib.Core.Path.{sym, ap, ◌∙◌}
-use borrow.Author.Rules.{rules}
 use Rattle.facts.specs.Facts.{fault_of}
 use Rattle.facts.specs.Gaps.{question_fault}
 use Rattle.facts.proofs.Gaps.{fault-filled}

@@ -1,6 +1,5 @@
 -- `gaps::term_or` meets its contract: the two cases.
 -- Assumes nothing.
-use borrow.Author.Rules.{rules}
 use mathlib.Core.Path.{sym, ◌∙◌}
 use Rattle.facts.specs.Gaps.{term_or}
 use Rattle.gaps.proofs.term_or.Goals as goal

@@ -1,7 +1,6 @@
 -- `import_collect::add_line` meets its contract: what the line says is gathered.
 -- Assumes nothing.
 use mathlib.Core.Path.{refl, sym, ◌∙◌}
-use borrow.Author.Rules.{rules}
 use Rattle.ntriples.specs.Tokens.{part}
 use Rattle.imports.specs.Lines.{said_by}
 use Rattle.imports.proofs.Collecting.{line-said, gathers-as, line-silent}

@@ -2,7 +2,6 @@
 -- Assumes nothing.
 use mathlib.Core.Path.{◌∙◌}
 use native.Mathlib.Omega.{arith}
-use borrow.Author.Rules.{rules}
 use Rattle.numbering.specs.Vocabulary.{with_term}
 use Rattle.imports.specs.Import.{known_by, facts_of}
 use Rattle.imports.specs.Collecting.{token_at, statement_at}

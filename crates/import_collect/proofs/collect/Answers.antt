@@ -1,10 +1,8 @@
 -- `import_collect::collect` meets its contract. The loop's invariant: the statements passed are gathered, with room for a fact more.
 -- Assumes nothing.
 use mathlib.Core.Path.{sym, ap, subst}
-use Prim.Native.Nat.{◌-◌}
 use native.Mathlib.Omega.{arith}
 use lib.ListN.{length}
-use borrow.Author.Rules.{rules}
 use Rattle.imports.proofs.Lines.{end-within}
 use Rattle.imports.specs.declared.Progress.{Progress}
 use Rattle.imports.specs.Collecting.{Underway}

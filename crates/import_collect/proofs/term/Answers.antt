@@ -1,7 +1,6 @@
 -- `import_collect::term` meets its contract: a token has a number then.
 -- Assumes nothing.
 use mathlib.Core.Path.{sym, ◌∙◌}
-use borrow.Author.Rules.{rules}
 use Rattle.imports.proofs.Collecting.{termed-fixed, termed-other}
 use Rattle.import_collect.proofs.term.Goals as goal
 

@@ -1,6 +1,5 @@
 -- `import_judge::first` meets its contract: the cases of the verdict and of what is held.
 -- Assumes nothing.
-use borrow.Author.Rules.{rules}
 use mathlib.Core.Path.{sym}
 use native.Mathlib.Numerals.{add-one}
 use Rattle.imports.specs.Import.{found_on, or_else}

@@ -1,11 +1,9 @@
 -- `import_judge::judge` meets its contract. The loop's invariant: what is held and the lines from here on come to what all lines come to.
 -- Assumes nothing.
-use borrow.Author.Rules.{rules}
 use mathlib.Core.Path.{◌≡◌, sym, ap, ◌∙◌}
-use mathlib.Core.Logic.{⊎_elim}
-use Prim.Native.Nat.{◌+◌, ◌-◌, ◌≤◌, ◌<◌}
+use Prim.Native.Nat.{◌+◌, ◌≤◌, ◌<◌}
 use native.Mathlib.Omega.{arith}
-use lib.ListN.{length, drop}
+use lib.ListN.{length}
 use Rattle.facts.specs.declared.Refusal.{Refusal}
 use Rattle.facts.specs.declared.Refusal.TheVariants.{Statement, UnknownNode}
 use Rattle.facts.specs.declared.Verdict.TheVariants.{Faulty}
@@ -91,8 +89,8 @@ loop-at-preserved c =
     let silent = onward-silent sample_fact s x.loop-at.at l.line_end-end.result l.line_end-end.ensures l.loop-at-test.true x.loop-at.held x.loop-at.i in
     let next = onward-next sample_fact s x.loop-at.at l.line_end-end.result l.line_end-end.ensures l.loop-at-test.true x.loop-at.held x.loop-at.i in
     elim c.match-parse.branch [
-      in-Nothing w ↦ (omega (arith, w.i-is), omega arith, rw (w.held-is, w.i-is) (sym (silent (read ∙ w.in-Nothing.is)) ∙ x.loop-at.invariant.2))
-    | in-Triple w ↦ (omega (arith, w.i-is), omega arith, rw (w.held-is, w.i-is, w.first-held.ensures, w.statement_fault-v.ensures) (sym (next (ap line_refusal (read ∙ w.in-Triple.is))) ∙ x.loop-at.invariant.2))
+      | in-Nothing w ↦ (omega (arith, w.i-is), omega arith, rw (w.held-is, w.i-is) (sym (silent (read ∙ w.in-Nothing.is)) ∙ x.loop-at.invariant.2))
+      | in-Triple w ↦ (omega (arith, w.i-is), omega arith, rw (w.held-is, w.i-is, w.first-held.ensures, w.statement_fault-v.ensures) (sym (next (ap line_refusal (read ∙ w.in-Triple.is))) ∙ x.loop-at.invariant.2))
     ]
 
 pub returns : goal.returns

@@ -1,21 +1,12 @@
 -- `import_judge::judge` meets its contract. The loop's invariant: what is held and the lines from here on come to what all lines come to.
 -- Assumes nothing.
-use borrow.Author.Rules.{rules}
-use mathlib.Core.Path.{◌≡◌, sym, ap, ◌∙◌}
-use mathlib.Core.Logic.{⊎_elim}
-use Prim.Native.Nat.{◌+◌, ◌-◌, ◌≤◌, ◌<◌}
-use native.Mathlib.Omega.{arith}
+use mathlib.Core.Path.{◌≡◌}
+use Prim.Native.Nat.{◌+◌, ◌-◌, ◌≤◌}
 use lib.ListN.{length, drop}
-use Rattle.facts.specs.declared.Refusal.{Refusal}
-use Rattle.facts.specs.declared.Refusal.TheVariants.{Statement, UnknownNode}
-use Rattle.facts.specs.declared.Verdict.TheVariants.{Faulty}
-use Rattle.imports.specs.declared.Finding.TheVariants.{Fault}
 use Rattle.imports.specs.Lines.{lines_of}
-use Rattle.imports.specs.Import.{judged, line_refusal}
+use Rattle.imports.specs.Import.{judged}
 use Rattle.imports.specs.Samples.{sample_fact}
-use Rattle.imports.proofs.Lines.{end-within, lines_none}
-use Rattle.imports.proofs.Judging.{onward, onward-all, onward-none, onward_stops, onward-next, onward-silent}
-use Rattle.imports.proofs.Samples.{judged-sampled}
+use Rattle.imports.proofs.Judging.{onward}
 use Rattle.import_judge.proofs.judge.Given as goal
 
 abbrev pub invariant-loop-at : goal.invariant-loop-at

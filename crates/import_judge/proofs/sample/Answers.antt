@@ -1,6 +1,5 @@
 -- `import_judge::sample` meets its contract: the vocabulary, and else the first byte.
 -- Assumes nothing.
-use borrow.Author.Rules.{rules}
 use mathlib.Core.Path.{sym, ◌∙◌}
 use Rattle.imports.proofs.Samples.{sample-word, sample-literal, sample-name}
 use Rattle.import_judge.proofs.sample.Goals as goal

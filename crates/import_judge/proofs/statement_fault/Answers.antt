@@ -1,6 +1,5 @@
 -- `import_judge::statement_fault` meets its contract: the spans lie within the line, and the fact is that of the three samples.
 -- Assumes nothing.
-use borrow.Author.Rules.{rules}
 use native.Mathlib.Omega.{arith}
 use Rattle.ntriples.proofs.Spans.{Spans, triple-spans}
 use Rattle.imports.specs.Lines.{said_by}

@@ -1,7 +1,6 @@
 -- `importer::import` meets its contract: the refusal, or the table of the facts collected.
 -- Assumes nothing.
 use mathlib.Core.Path.{sym, ◌∙◌}
-use borrow.Author.Rules.{rules}
 use Rattle.facts.specs.declared.Refusal.TheVariants.{Statement, Crowd}
 use Rattle.imports.specs.Lines.{lines_of, statements}
 use Rattle.imports.specs.Import.{facts_of, import_of}

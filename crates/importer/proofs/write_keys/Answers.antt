@@ -5,7 +5,6 @@ use Prim.Native.Nat.{◌*◌}
 use native.Mathlib.Omega.{arith}
 use lib.ListN.{length}
 use lib.Seq.{length-take-le}
-use borrow.Author.Rules.{rules}
 use Rattle.imports.proofs.Imported.{row_written}
 use Rattle.importer.proofs.write_keys.Goals as goal
 

@@ -1,13 +1,10 @@
 -- `input::are_laid_out` meets its contract. The loop's invariant: what is to be laid out from the start is what the questions passed leave.
 -- Assumes nothing.
-use Prim.Native.Nat.{◌+◌, ◌-◌, ◌*◌, ◌≤◌}
 use mathlib.Core.Path.{◌≡◌, sym, ◌∙◌}
 use mathlib.Core.Bool.{true, false}
 use native.Mathlib.Omega.{arith}
 use native.Mathlib.Nat.{sub-zero}
-use borrow.Author.Tests.{not-true, not-false}
 use Rattle.columns.specs.Lines.{laid_out}
-use Rattle.batch.specs.Input.{all_laid}
 use Rattle.batch.proofs.Inputs.{laid_next, laid_end}
 use Rattle.input.proofs.are_laid_out.Goals as goal
 

@@ -1,7 +1,6 @@
 -- `input::is_zero_line` meets its contract: the tests are the definition's.
 -- Assumes nothing.
 use Rattle.batch.specs.Input.{is_zero_line}
-use borrow.Author.Rules.{rules}
 use Rattle.input.proofs.is_zero_line.Goals as goal
 
 pub returns : goal.returns

@@ -1,12 +1,8 @@
 -- `input::layout` meets its contract. The loop's invariant: no zero line stands before the line reached.
 -- Assumes nothing.
 use Prim.Native.Nat.{◌-◌, ◌≤◌}
-use mathlib.Core.Path.{◌≡◌, sym, ◌∙◌}
-use native.Mathlib.Omega.{arith}
-use native.Mathlib.Nat.{sub-zero}
-use borrow.Author.Tests.{le-leb, lt-leb}
+use mathlib.Core.Path.{◌≡◌}
 use Rattle.batch.specs.Input.{layout_of, divided_from}
-use Rattle.batch.proofs.Inputs.{divided-here, divided-on, divided-end}
 use Rattle.input.proofs.layout.Given as goal
 
 abbrev pub invariant-loop-i : goal.invariant-loop-i

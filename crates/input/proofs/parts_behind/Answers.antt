@@ -2,7 +2,6 @@
 -- Assumes nothing.
 use borrow.Author.Tests.{eq-eqb, ne_eqb}
 use Rattle.batch.specs.Input.{parts_behind}
-use borrow.Author.Rules.{rules}
 use Rattle.input.proofs.parts_behind.Goals as goal
 
 pub returns-then-rest-ne0 : goal.returns-then-rest-ne0

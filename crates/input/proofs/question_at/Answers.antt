@@ -1,7 +1,6 @@
 -- `input::question_at` meets its contract: the fields are the definition's.
 -- Assumes nothing.
 use Rattle.batch.specs.Input.{question_at}
-use borrow.Author.Rules.{rules}
 use Rattle.input.proofs.question_at.Goals as goal
 
 pub returns : goal.returns

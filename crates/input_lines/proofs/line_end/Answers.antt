@@ -1,12 +1,9 @@
 -- `input_lines::line_end` meets its contract. The loop's invariant: the line ends where the one from i on does.
 -- Assumes nothing.
-use mathlib.Core.Path.{◌≡◌, refl, sym, ◌∙◌}
-use Prim.Native.Nat.{◌-◌}
+use mathlib.Core.Path.{refl, sym, ◌∙◌}
 use native.Mathlib.Omega.{arith}
 use native.Mathlib.Nat.{add-zero}
 use native.Mathlib.Numerals.{add-one}
-use lib.ListN.{length}
-use Rattle.imports.specs.Lines.{line_end}
 use Rattle.imports.proofs.Lines.{first_stops, first-goes-on, first-over}
 use Rattle.input_lines.proofs.line_end.Goals as goal
 

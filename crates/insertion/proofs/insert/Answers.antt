@@ -1,10 +1,9 @@
 -- `insertion::insert` meets its contract. The loop's invariant: the numbers from j on stand one place further.
 -- Assumes nothing.
-use mathlib.Core.Path.{◌≡◌, refl}
-use Prim.Native.Nat.{◌≤◌}
+use mathlib.Core.Path.{refl}
 use native.Mathlib.Omega.{arith}
-use lib.ListN.{length, length-set}
-use Rattle.ordered.proofs.Shifts.{Moved, moved_none, moved_more, moved-put}
+use lib.ListN.{length-set}
+use Rattle.ordered.proofs.Shifts.{moved_none, moved_more, moved-put}
 use Rattle.insertion.proofs.insert.Goals as goal
 
 pub loop-j-init : goal.loop-j-init

@@ -1,10 +1,9 @@
 -- `insertion::insert` meets its contract. The loop's invariant: the numbers from j on stand one place further.
 -- Assumes nothing.
-use mathlib.Core.Path.{◌≡◌, refl}
+use mathlib.Core.Path.{◌≡◌}
 use Prim.Native.Nat.{◌≤◌}
-use native.Mathlib.Omega.{arith}
-use lib.ListN.{length, length-set}
-use Rattle.ordered.proofs.Shifts.{Moved, moved_none, moved_more, moved-put}
+use lib.ListN.{length}
+use Rattle.ordered.proofs.Shifts.{Moved}
 use Rattle.insertion.proofs.insert.Given as goal
 
 abbrev pub invariant-loop-j : goal.invariant-loop-j

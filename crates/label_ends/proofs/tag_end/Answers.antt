@@ -2,11 +2,9 @@
 -- Assumes nothing.
 use mathlib.Core.Path.{◌≡◌, refl, sym, ap, ◌∙◌}
 use mathlib.Core.Bool.{false}
-use Prim.Native.Nat.{◌-◌}
 use native.Mathlib.Omega.{arith}
-use lib.ListN.{length}
 use Rattle.ntriples.specs.Lexed.{byte_at, tag_end}
-use Rattle.ntriples.proofs.Lexed.{any-default, goes_on, tag_at, tag-more, tag-part, tag-stop, tag-over}
+use Rattle.ntriples.proofs.Lexed.{any-default, goes_on, tag-more, tag-part, tag-stop, tag-over}
 use Rattle.label_ends.proofs.tag_end.Goals as goal
 use Rattle.label_ends.proofs.tag_end.Goals.{Else-is_of-first}
 

@@ -1,9 +1,7 @@
 -- `label_ends::trim` meets its contract. The loop's invariant: between i and the start stand only full stops.
 -- Assumes nothing.
-use mathlib.Core.Path.{◌≡◌, refl, sym, ap, ◌∙◌}
-use native.Mathlib.Omega.{arith}
+use mathlib.Core.Path.{◌≡◌}
 use Rattle.ntriples.specs.Lexed.{trimmed}
-use Rattle.ntriples.proofs.Lexed.{trim-stops, trim-goes-on}
 use Rattle.label_ends.proofs.trim.Given as goal
 
 abbrev pub invariant-loop-i : goal.invariant-loop-i

@@ -1,10 +1,8 @@
 -- `line_layout::is_laid_out` meets its contract. The loop's invariant: what is laid out from the start is what the fields passed leave to be laid out.
 -- Assumes nothing.
-use mathlib.Core.Path.{◌≡◌, sym, ◌∙◌}
-use Prim.Native.Nat.{◌+◌, ◌-◌, ◌*◌, ◌≤◌}
+use mathlib.Core.Path.{sym, ◌∙◌}
 use native.Mathlib.Omega.{arith}
 use native.Mathlib.Nat.{sub-zero}
-use Rattle.columns.specs.Lines.{laid_out}
 use Rattle.columns.proofs.Columns.{field-none, field-some}
 use Rattle.columns.proofs.Lines.{laid_out-next, laid_out-end}
 use Rattle.line_layout.proofs.is_laid_out.Goals as goal

@@ -3,7 +3,6 @@
 use mathlib.Core.Path.{◌≡◌, sym, ap, ◌∙◌}
 use mathlib.Core.Bool.{◌||◌}
 use lib.Dec.{eqb}
-use borrow.Author.Tests.{not-true, not-false}
 use Rattle.ntriples.specs.declared.Class.TheVariants.{White}
 use Rattle.ntriples.specs.Lexed.{run_end, stops, is_blank}
 use Rattle.ntriples.proofs.Lines.{object-none, object-unstopped, object-unknown, object-triple}

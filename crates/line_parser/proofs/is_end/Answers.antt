@@ -1,7 +1,6 @@
 -- `line_parser::is_end` meets its contract.
 -- Assumes nothing.
 use mathlib.Core.Path.{sym, ap, ◌∙◌}
-use native.Mathlib.Omega.{arith}
 use lib.ListN.{length}
 use lib.Dec.{leb}
 use Rattle.ntriples.proofs.Lines.{ends-over, ends-not, ends-comment}

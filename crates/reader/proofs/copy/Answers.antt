@@ -2,12 +2,10 @@
 -- Assumes nothing.
 use mathlib.Core.Path.{◌≡◌, refl, ◌∙◌}
 use mathlib.Core.List.{[], ◌∷◌}
-use Prim.Native.Nat.{◌-◌, ◌≤◌}
 use native.Mathlib.Omega.{arith}
 use native.Mathlib.Numerals.{add-one}
-use lib.ListN.{length, take, get_or, length-set}
+use lib.ListN.{take, get_or, length-set}
 use lib.Seq.{length-take-le, take-suc}
-use Rattle.columns.specs.Lines.{over}
 use Rattle.columns.proofs.Parts.{over-more}
 use Rattle.reader.proofs.copy.Goals as goal
 

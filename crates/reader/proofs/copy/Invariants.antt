@@ -1,14 +1,9 @@
 -- `reader::copy` meets its contract. The loop's invariant: the numbers passed stand over the front of the output.
 -- Assumes nothing.
-use mathlib.Core.Path.{◌≡◌, refl, ◌∙◌}
-use mathlib.Core.List.{[], ◌∷◌}
+use mathlib.Core.Path.{◌≡◌}
 use Prim.Native.Nat.{◌-◌, ◌≤◌}
-use native.Mathlib.Omega.{arith}
-use native.Mathlib.Numerals.{add-one}
-use lib.ListN.{length, take, get_or, length-set}
-use lib.Seq.{length-take-le, take-suc}
+use lib.ListN.{length, take}
 use Rattle.columns.specs.Lines.{over}
-use Rattle.columns.proofs.Parts.{over-more}
 use Rattle.reader.proofs.copy.Given as goal
 
 abbrev pub invariant-loop-i : goal.invariant-loop-i

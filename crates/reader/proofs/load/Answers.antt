@@ -2,17 +2,15 @@
 -- facts of the lines passed stand over the front of the row.
 -- Assumes nothing.
 use mathlib.Core.Path.{◌≡◌, refl, sym, ◌∙◌}
-use Prim.Native.Nat.{◌+◌, ◌-◌, ◌*◌, ◌/◌, ◌≤◌, ◌<◌}
+use Prim.Native.Nat.{◌+◌, ◌-◌, ◌*◌, ◌/◌}
 use native.Mathlib.Omega.{arith}
 use native.Mathlib.Nat.{sub-zero}
 use lib.ListN.{length}
-use borrow.Author.Rules.{rules}
-use Rattle.columns.specs.Lines.{flat, items_from, over}
+use Rattle.columns.specs.Lines.{flat, items_from}
 use Rattle.columns.proofs.Lists.{items-length, flat-more}
 use Rattle.columns.proofs.Parts.{over-more}
 use Rattle.facts.specs.declared.Refusal.TheVariants.{Size}
 use Rattle.table.specs.declared.Scan.TheVariants.{Stops, Passes}
-use Rattle.table.specs.Scans.{scan}
 use Rattle.table.specs.Tables.{row_of, terms, line_fact, line_verdict, table_scan}
 use Rattle.table.proofs.Scans.{scan-on, scan-stop, scan-end}
 use Rattle.table.proofs.Rows.{row-length, sized-torn, sized-large, sized-fits, scan-table, loaded-none, loaded-stop, loaded-all}

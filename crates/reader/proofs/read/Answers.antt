@@ -5,7 +5,6 @@ use Prim.Native.Nat.{◌*◌}
 use native.Mathlib.Omega.{arith}
 use lib.ListN.{length, take}
 use lib.Seq.{take_at}
-use borrow.Author.Rules.{rules}
 use Rattle.facts.specs.declared.Answer.TheVariants.{Done}
 use Rattle.table.specs.Tables.{row_of, table_of}
 use Rattle.table.proofs.Rows.{row-length, scan-passes, scan-stops, accepted-size, loaded-accepted, settle-refused, settle-short, settle-done}

@@ -4,7 +4,6 @@ use mathlib.Core.Path.{refl, ◌∙◌}
 use Rattle.columns.specs.Fields.{column, field}
 use Rattle.columns.specs.Lines.{fields, line}
 use Rattle.batch.specs.Output.{code_line}
-use borrow.Author.Rules.{rules}
 use Rattle.replies.proofs.refusal.Goals as goal
 
 pub returns : goal.returns

@@ -8,7 +8,6 @@ use borrow.Author.Tests.{lt-leb, le-leb, le-ltb}
 use Rattle.batch.specs.Input.{questions_behind}
 use Rattle.batch.specs.Output.{reply_to, reply, reply_in}
 use Rattle.batch.proofs.Replies.{reply-fits}
-use borrow.Author.Rules.{rules}
 use Rattle.replies.proofs.reply.Goals as goal
 
 pub returns-then-out-lt-REPLY_BYTES : goal.returns-then-out-lt-REPLY_BYTES

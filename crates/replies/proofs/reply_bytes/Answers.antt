@@ -1,9 +1,7 @@
 -- `replies::reply_bytes` meets its contract: a yes has its derivation behind the first line, and any other answer is one line.
 -- Assumes nothing.
 use mathlib.Core.Path.{◌≡◌, refl, ap}
-use mathlib.Core.List.{[], ◌∷◌}
 use Prim.Native.Nat.{ℕ, ◌+◌}
-use borrow.Author.Rules.{rules}
 use Rattle.facts.specs.declared.Answer.{Answer}
 use Rattle.facts.specs.declared.Answer.TheVariants.{Done, Yes, No, Long, Accepted, Refused}
 use Rattle.batch.specs.Output.{reply_size}

@@ -1,7 +1,6 @@
 -- The filled fact: each of its three terms is what its cell stands for.
 -- Assumes nothing.
 use Rattle.rules.specs.Steps.{fill}
-use borrow.Author.Rules.{rules}
 use Rattle.rule_steps.proofs.filled.Goals as goal
 
 pub returns : goal.returns

@@ -1,7 +1,6 @@
 -- A row fits: the three tests are those of `fits_row`, by the contracts of the two calls.
 -- Assumes nothing.
 use Rattle.rules.specs.Steps.{fits_row}
-use borrow.Author.Rules.{rules}
 use Rattle.rule_steps.proofs.fits.Goals as goal
 
 pub returns : goal.returns

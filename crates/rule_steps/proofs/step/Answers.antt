@@ -4,7 +4,6 @@ use mathlib.Core.Path.{sym}
 use mathlib.Core.Logic.{inl, inr}
 use Rattle.rules.specs.Steps.{rows, row}
 use Rattle.rules.proofs.Steps.{step-beyond, step_row}
-use borrow.Author.Rules.{rules}
 use Rattle.rule_steps.proofs.step.Goals as goal
 
 pub returns-then-n-eq0 : goal.returns-then-n-eq0

@@ -9,7 +9,6 @@ use Rattle.table.specs.Tables.{table_of, accepted}
 use Rattle.table.proofs.Rows.{scan-passes, scan-stops}
 use Rattle.table.proofs.Tables.{table_of-accepted}
 use Rattle.question.proofs.Answered.{answered-table, answered-refused, answered-settled, asked-sound, loaded-facts, loaded-sorted}
-use borrow.Author.Rules.{rules}
 use Rattle.search.proofs.question.Goals as goal
 use Rattle.search.proofs.question.Goals.{In-Passes}
 

@@ -4,7 +4,6 @@ use mathlib.Core.Path.{ap, ◌∙◌}
 use native.Mathlib.Omega.{arith}
 use Rattle.facts.specs.Gaps.{filling_of}
 use Rattle.question.proofs.Places.{found-few, found-placed, print-placed, settle-long, settle-yes, settle-no}
-use borrow.Author.Rules.{rules}
 use Rattle.search.proofs.settle.Goals as goal
 
 pub overflow_cast-count : goal.overflow_cast-count

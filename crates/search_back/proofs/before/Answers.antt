@@ -1,6 +1,5 @@
 -- `search_back::before` meets its contract: the queue is passed from `top` down, as far as it has places marked m.
 -- Assumes nothing.
-use mathlib.Core.Logic.{⊎_elim}
 use mathlib.Core.Path.{◌≡◌, sym, ap, ◌∙◌}
 use mathlib.Core.Bool.{Bool}
 use Prim.Native.Nat.{ℕ, ◌-◌, ◌≤◌, ◌<◌}
@@ -8,13 +7,12 @@ use native.Mathlib.Omega.{arith}
 use lib.ListN.{get_or}
 use lib.Dec.{T, eqb}
 use mir.Facts.{and_yes, eqb_yes}
-use borrow.Author.Rules.{rules}
 use Rattle.facts.specs.declared.Fact.{Fact}
 use Rattle.table.specs.Tables.{row_fact}
 use Rattle.rules.specs.Paths.{next}
 use Rattle.question.specs.Trace.{precedes}
 use Rattle.question.proofs.Laws.{holds_of, fails_of}
-use Rattle.question.proofs.Steps.{Looking, looking-begin, looking-skip, looking-take, looking-stop, looking-all}
+use Rattle.question.proofs.Steps.{looking-begin, looking-skip, looking-take, looking-stop, looking-all}
 use Rattle.search_back.proofs.before.Goals as goal
 use Rattle.search_back.proofs.before.Goals.{then-k-m-2+then-i-at+then-follows, then-k-m-2+then-i-at+else-follows, then-k-m-2+else-i-at, else-k-m-2}
 use Rattle.search_back.proofs.before.Goals.{After-wide-i, After-wide-k, In-loop-q}
@@ -79,11 +77,11 @@ loop-q-preserved c =
     λ x. and_yes (eqb (get_or a.mark.now here 0) a.m) (next a.w (row_fact a.row.now here) a.b) x in
     let leads : Fact → Bool = λ f. next a.w f a.b in
     elim c.if-k-m-2.branch [
-      then-k-m-2+then-i-at+then-follows w ↦ rw (w.at-is ∙ i) (looking-take _ _ _ _ _ _ _ _ l.at l.q l.invariant h (z.requires.queued.inside (l.q - 1) (omega (arith, h, l.invariant.high))) (sym k ∙ w.if-k-m-2.true) (omega (arith, w.if-i-at.true, i))
-    (holds_of leads w.follows.ensures (w.row_fact-a.ensures ∙ ap (row_fact a.row.now) i) w.if-follows.true))
-    | then-k-m-2+then-i-at+else-follows w ↦ rw w.at-is (looking-skip _ _ _ _ _ _ _ _ l.at l.q l.invariant h least (λ x. absurd (fails_of leads w.follows.ensures (w.row_fact-a.ensures ∙ ap (row_fact a.row.now) i) w.if-follows.false (tests x).1)))
-    | then-k-m-2+else-i-at w ↦ rw w.at-is (looking-skip _ _ _ _ _ _ _ _ l.at l.q l.invariant h least (λ x. omega (arith, w.if-i-at.false, i)))
-    | else-k-m-2 w ↦ rw w.at-is (looking-skip _ _ _ _ _ _ _ _ l.at l.q l.invariant h least (λ x. absurd (w.if-k-m-2.false (k ∙ eqb_yes (tests x).0))))
+      | then-k-m-2+then-i-at+then-follows w ↦ rw (w.at-is ∙ i) (looking-take _ _ _ _ _ _ _ _ l.at l.q l.invariant h (z.requires.queued.inside (l.q - 1) (omega (arith, h, l.invariant.high))) (sym k ∙ w.if-k-m-2.true) (omega (arith, w.if-i-at.true, i))
+          (holds_of leads w.follows.ensures (w.row_fact-a.ensures ∙ ap (row_fact a.row.now) i) w.if-follows.true))
+      | then-k-m-2+then-i-at+else-follows w ↦ rw w.at-is (looking-skip _ _ _ _ _ _ _ _ l.at l.q l.invariant h least (λ x. absurd (fails_of leads w.follows.ensures (w.row_fact-a.ensures ∙ ap (row_fact a.row.now) i) w.if-follows.false (tests x).1)))
+      | then-k-m-2+else-i-at w ↦ rw w.at-is (looking-skip _ _ _ _ _ _ _ _ l.at l.q l.invariant h least (λ x. omega (arith, w.if-i-at.false, i)))
+      | else-k-m-2 w ↦ rw w.at-is (looking-skip _ _ _ _ _ _ _ _ l.at l.q l.invariant h least (λ x. absurd (w.if-k-m-2.false (k ∙ eqb_yes (tests x).0))))
     ]
 
 pub returns : goal.returns

@@ -3,11 +3,9 @@
 use mathlib.Core.Logic.{inl, inr}
 use mathlib.Core.Path.{◌≡◌, refl, ◌∙◌, subst}
 use mathlib.Core.Bool.{false, ◌&&◌}
-use Prim.Native.Nat.{ℕ, ◌-◌, ◌≤◌, ◌<◌}
 use native.Mathlib.Omega.{arith}
 use lib.Dec.{T}
 use mir.Facts.{and_yes, yes_and}
-use borrow.Author.Rules.{rules}
 use Rattle.facts.proofs.Terms.{T_of}
 use Rattle.table.specs.Tables.{row_fact}
 use Rattle.rules.specs.Paths.{next, goal_for}

@@ -1,17 +1,9 @@
 -- `search_back::first_end` meets its contract: the part is passed from its front, up to the first goal that may follow or up to `best`.
 -- Assumes nothing.
-use mathlib.Core.Logic.{inl, inr}
-use mathlib.Core.Path.{◌≡◌, refl, ◌∙◌, subst}
-use mathlib.Core.Bool.{false, ◌&&◌}
 use Prim.Native.Nat.{ℕ, ◌-◌, ◌≤◌, ◌<◌}
-use native.Mathlib.Omega.{arith}
 use lib.Dec.{T}
-use mir.Facts.{and_yes, yes_and}
-use borrow.Author.Rules.{rules}
-use Rattle.facts.proofs.Terms.{T_of}
 use Rattle.table.specs.Tables.{row_fact}
 use Rattle.rules.specs.Paths.{next, goal_for}
-use Rattle.question.proofs.Laws.{equal-or, most-or}
 use Rattle.search_back.proofs.first_end.Given as goal
 
 abbrev pub invariant-loop-j : goal.invariant-loop-j

@@ -1,10 +1,8 @@
 -- `search_back::first_sought` meets its contract: the first place that passes is found from the front.
 -- Assumes nothing.
-use mathlib.Core.Path.{◌≡◌, sym, ap, ◌∙◌}
-use Prim.Native.Nat.{◌-◌, ◌≤◌}
+use mathlib.Core.Path.{sym, ap, ◌∙◌}
 use native.Mathlib.Omega.{arith}
-use Rattle.rules.specs.Graph.{least}
-use Rattle.question.specs.Trace.{place_or, sought}
+use Rattle.question.specs.Trace.{place_or}
 use Rattle.question.proofs.Back.{least-begin, least-hit, least_skip, least-end}
 use Rattle.search_back.proofs.first_sought.Goals as goal
 

@@ -1,11 +1,9 @@
 -- `search_back::first_sought` meets its contract: the first place that passes is found from the front.
 -- Assumes nothing.
-use mathlib.Core.Path.{◌≡◌, sym, ap, ◌∙◌}
+use mathlib.Core.Path.{◌≡◌}
 use Prim.Native.Nat.{◌-◌, ◌≤◌}
-use native.Mathlib.Omega.{arith}
 use Rattle.rules.specs.Graph.{least}
-use Rattle.question.specs.Trace.{place_or, sought}
-use Rattle.question.proofs.Back.{least-begin, least-hit, least_skip, least-end}
+use Rattle.question.specs.Trace.{sought}
 use Rattle.search_back.proofs.first_sought.Given as goal
 
 abbrev pub invariant-loop-j : goal.invariant-loop-j

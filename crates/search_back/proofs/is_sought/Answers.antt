@@ -1,6 +1,5 @@
 -- `search_back::is_sought` meets its contract: the test is the one that is asked for.
 -- Assumes nothing.
-use borrow.Author.Rules.{rules}
 use Rattle.search_back.proofs.is_sought.Goals as goal
 
 pub returns-then-leads : goal.returns-then-leads

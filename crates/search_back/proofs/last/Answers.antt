@@ -1,18 +1,16 @@
 -- `search_back::last` meets its contract: from each place marked m its part of the row is passed, once, and the first goal that may follow is kept.
 -- Assumes nothing.
-use mathlib.Core.Logic.{⊎_elim}
 use mathlib.Core.Path.{◌≡◌, sym, ap, ◌∙◌, subst}
-use Prim.Native.Nat.{ℕ, ◌-◌, ◌<◌}
+use Prim.Native.Nat.{ℕ, ◌<◌}
 use native.Mathlib.Omega.{arith}
 use lib.ListN.{get_or}
-use borrow.Author.Rules.{rules}
 use Rattle.facts.specs.declared.Fact.{Fact}
 use Rattle.table.specs.Tables.{row_fact}
 use Rattle.question.specs.State.{PartOf}
 use Rattle.question.specs.Trace.{FirstEnd}
 use Rattle.question.specs.Row.{may_come_before}
 use Rattle.question.proofs.Parts.{part-within, behind-passed}
-use Rattle.question.proofs.Steps.{Ending, ending-begin, ending_skip, ending-more, ending-end}
+use Rattle.question.proofs.Steps.{ending-begin, ending_skip, ending-more, ending-end}
 use Rattle.search_back.proofs.last.Goals as goal
 use Rattle.search_back.proofs.last.Goals.{then-wide-m+then-may_come_before, then-wide-m+else-may_come_before, else-wide-m}
 use Rattle.search_back.proofs.last.Goals.{After-wide-i}
@@ -67,18 +65,18 @@ loop-q-preserved c =
     let i = c.wide-i.ensures in
     let k : c.wide.result ≡ get_or a.mark.now (get_or a.queue.now l.q 0) 0 = c.wide.ensures ∙ ap (λ (i : ℕ). get_or a.mark.now i 0) i in
     elim c.if-wide-m.branch [
-      then-wide-m+then-may_come_before w ↦
-        let f = w.row_fact-a.ensures ∙ ap (row_fact a.row.now) i in
-        let p = w.part_of-p.result in
-        let part = subst (λ (g : Fact). PartOf a.row.now a.n a.w g l.done p.from p.to p.slot) f w.part_of-p.ensures in
-        let first = subst (λ (g : Fact). FirstEnd a.row.now a.w a.t g p.from p.to l.best w.first_end-best.result) f w.first_end-best.ensures in
-        rw (w.best-is, w.done-is)
-        (ending-more _ _ _ _ _ _ _ l.best _ l.done l.q z.requires.0.rising z.requires.0.some (z.requires.0.queued.inside l.q c.loop-q-test.true) (sym k
-        ∙ w.if-wide-m.true) part first l.invariant)
-    | then-wide-m+else-may_come_before w ↦
-        let behind = ap (λ (g : Fact). may_come_before a.row.now a.n g l.best) (sym (w.row_fact-a.ensures ∙ ap (row_fact a.row.now) i)) ∙ sym w.may_come_before.ensures ∙ w.if-may_come_before.false in
-        rw (w.best-is, w.done-is) (ending_skip _ _ _ _ _ _ _ _ _ l.q l.invariant (λ e. behind-passed _ _ _ _ _ l.best z.requires.0.rising behind (λ b h g. h)))
-    | else-wide-m w ↦ rw (w.best-is, w.done-is) (ending_skip _ _ _ _ _ _ _ _ _ l.q l.invariant (λ e. absurd (w.if-wide-m.false (k ∙ e))))
+      | then-wide-m+then-may_come_before w ↦
+          let f = w.row_fact-a.ensures ∙ ap (row_fact a.row.now) i in
+          let p = w.part_of-p.result in
+          let part = subst (λ (g : Fact). PartOf a.row.now a.n a.w g l.done p.from p.to p.slot) f w.part_of-p.ensures in
+          let first = subst (λ (g : Fact). FirstEnd a.row.now a.w a.t g p.from p.to l.best w.first_end-best.result) f w.first_end-best.ensures in
+          rw (w.best-is, w.done-is)
+          (ending-more _ _ _ _ _ _ _ l.best _ l.done l.q z.requires.0.rising z.requires.0.some (z.requires.0.queued.inside l.q c.loop-q-test.true) (sym k
+          ∙ w.if-wide-m.true) part first l.invariant)
+      | then-wide-m+else-may_come_before w ↦
+          let behind = ap (λ (g : Fact). may_come_before a.row.now a.n g l.best) (sym (w.row_fact-a.ensures ∙ ap (row_fact a.row.now) i)) ∙ sym w.may_come_before.ensures ∙ w.if-may_come_before.false in
+          rw (w.best-is, w.done-is) (ending_skip _ _ _ _ _ _ _ _ _ l.q l.invariant (λ e. behind-passed _ _ _ _ _ l.best z.requires.0.rising behind (λ b h g. h)))
+      | else-wide-m w ↦ rw (w.best-is, w.done-is) (ending_skip _ _ _ _ _ _ _ _ _ l.q l.invariant (λ e. absurd (w.if-wide-m.false (k ∙ e))))
     ]
 
 pub returns : goal.returns

@@ -1,7 +1,6 @@
 -- `search_back::path_end` meets its contract: a path of one fact ends where it begins.
 -- Assumes nothing.
 use mathlib.Core.Path.{◌∙◌}
-use borrow.Author.Rules.{rules}
 use Rattle.search_back.proofs.path_end.Goals as goal
 
 pub returns-then-m-eq0 : goal.returns-then-m-eq0

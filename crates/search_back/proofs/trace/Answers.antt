@@ -3,15 +3,14 @@
 -- Assumes nothing.
 use mathlib.Core.Path.{◌≡◌, refl, sym, ap, ◌∙◌}
 use mathlib.Core.List.{List}
-use Prim.Native.Nat.{ℕ, suc, ◌-◌, ◌≤◌, ◌<◌}
+use Prim.Native.Nat.{ℕ, ◌-◌, ◌≤◌, ◌<◌}
 use native.Mathlib.Omega.{arith}
 use lib.ListN.{length, set, length-set}
 use Rattle.facts.specs.declared.Fact.{Fact}
-use Rattle.rules.specs.Graph.{least}
 use Rattle.table.specs.Tables.{row_fact}
 use Rattle.question.specs.declared.State.{State}
 use Rattle.question.specs.State.{Met}
-use Rattle.question.specs.Trace.{place_or, ending, before_of, Queued}
+use Rattle.question.specs.Trace.{before_of}
 use Rattle.question.proofs.Steps.{all-queued}
 use Rattle.question.proofs.Back.{Reading, reading-start, reading_step, reading-end, over-set}
 use Rattle.search_back.proofs.trace.Goals as goal

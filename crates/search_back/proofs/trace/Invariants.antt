@@ -1,19 +1,14 @@
 -- `search_back::trace` meets its contract. The loop's invariant, `Reading`: from the place i on, the chosen path is written, and what is left of it
 -- leads to the place j; the places of the layers up to i are queued below `top`.
 -- Assumes nothing.
-use mathlib.Core.Path.{◌≡◌, refl, sym, ap, ◌∙◌}
-use mathlib.Core.List.{List}
-use Prim.Native.Nat.{ℕ, suc, ◌-◌, ◌≤◌, ◌<◌}
-use native.Mathlib.Omega.{arith}
-use lib.ListN.{length, set, length-set}
+use mathlib.Core.Path.{◌≡◌}
+use Prim.Native.Nat.{suc}
 use Rattle.facts.specs.declared.Fact.{Fact}
 use Rattle.rules.specs.Graph.{least}
-use Rattle.table.specs.Tables.{row_fact}
 use Rattle.question.specs.declared.State.{State}
 use Rattle.question.specs.State.{Met}
-use Rattle.question.specs.Trace.{place_or, ending, before_of, Queued}
-use Rattle.question.proofs.Steps.{all-queued}
-use Rattle.question.proofs.Back.{Reading, reading-start, reading_step, reading-end, over-set}
+use Rattle.question.specs.Trace.{place_or, ending, Queued}
+use Rattle.question.proofs.Back.{Reading}
 use Rattle.search_back.proofs.trace.Given as goal
 
 abbrev pub invariant-loop-i : goal.invariant-loop-i

@@ -1,7 +1,6 @@
 -- `search_choice::answer` meets its contract: what the search left is read back, where it met a goal.
 -- Assumes nothing.
 use Rattle.question.proofs.Whole.{gives_none, gives-some, traceable}
-use borrow.Author.Rules.{rules}
 use Rattle.search_choice.proofs.answer.Goals as goal
 
 pub returns-then-facts-eq0 : goal.returns-then-facts-eq0

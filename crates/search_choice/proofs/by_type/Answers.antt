@@ -1,11 +1,9 @@
 -- `search_choice::by_type` meets its contract: the two searches bound every path, and the way of the lesser count is the one that `way_of` names.
 -- Assumes nothing.
 use mathlib.Core.Path.{sym, ◌∙◌}
-use mathlib.Core.Logic.{⊎_elim, inl, inr}
-use Rattle.facts.proofs.Terms.{T_of, of-F}
+use mathlib.Core.Logic.{inl, inr}
 use Rattle.question.proofs.Laws.{some_of}
 use Rattle.question.proofs.Whole.{bound-none, other-low, answers-range, answers-dom, answers-alone}
-use borrow.Author.Rules.{rules}
 use Rattle.search_choice.proofs.by_type.Goals as goal
 use Rattle.search_choice.proofs.by_type.Goals.{then-x-ne0+else-y-eq0+else-x-y, else-x-ne0}
 

@@ -1,7 +1,6 @@
 -- `search_choice::shortest` meets its contract: one search where the fact asks for no type, and else two.
 -- Assumes nothing.
 use Rattle.question.proofs.Whole.{sorted-rising, answers-plain}
-use borrow.Author.Rules.{rules}
 use Rattle.search_choice.proofs.shortest.Goals as goal
 
 pub by_type-requires : goal.by_type-requires

@@ -4,7 +4,6 @@ use mathlib.Core.Path.{sym, ◌∙◌}
 use native.Mathlib.Numerals.{add-one}
 use borrow.Author.Tests.{eq-eqb, ne_eqb}
 use Rattle.rules.specs.Printed.{join}
-use borrow.Author.Rules.{rules}
 use Rattle.search_join.proofs.join_line.Goals as goal
 
 pub returns-then-is_name : goal.returns-then-is_name

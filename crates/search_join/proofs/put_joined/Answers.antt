@@ -32,6 +32,9 @@ returns c =
     let one = c.table_line-first.ensures in
     let two = c.join_line-second.ensures in
     let a = line_bytes (derivation_line 0 0 0 z.args.f) in
-    let b = line_bytes (join z.args.c z.args.i z.args.f) in record { result = ap (λ (l : Line). l.fact) two; lines = part-more p.new.out a b z.args.out.now q.new.out 31 (p.ensures ∙ rw one) p.auto.out (line-length (line_numbers (derivation_line 0 0 0 z.args.f)))
+    let b = line_bytes (join z.args.c z.args.i z.args.f) in record {
+      result = ap (λ (l : Line). l.fact) two;
+      lines = part-more p.new.out a b z.args.out.now q.new.out 31 (p.ensures ∙ rw one) p.auto.out (line-length (line_numbers (derivation_line 0 0 0 z.args.f)))
           (rw line-length (omega (arith, z.requires.1))) (q.ensures ∙ rw two)
-          ∙ ap (λ (l : List ℕ). over l z.args.out.now) (sym (two-lines (derivation_line 0 0 0 z.args.f) (join z.args.c z.args.i z.args.f))) }
+          ∙ ap (λ (l : List ℕ). over l z.args.out.now) (sym (two-lines (derivation_line 0 0 0 z.args.f) (join z.args.c z.args.i z.args.f)));
+    }

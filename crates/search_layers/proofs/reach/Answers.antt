@@ -1,7 +1,6 @@
 -- `search_layers::reach` meets its contract: the first layer ends the search, or the rounds begin with what it left.
 -- Assumes nothing.
 use Rattle.question.proofs.Passes.{seeded-left, seeded-begun}
-use borrow.Author.Rules.{rules}
 use Rattle.search_layers.proofs.reach.Goals as goal
 
 pub returns-then-first-ne0 : goal.returns-then-first-ne0

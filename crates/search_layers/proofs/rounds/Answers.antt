@@ -1,19 +1,17 @@
 -- `search_layers::rounds` meets its contract. The invariants of its three passes are `Outer`, `Middle` and `Inner` of Passes, with what is noted
 -- as passed; a goal that is met ends the search with the least number of facts, and an empty frontier with none.
 -- Assumes nothing.
-use mathlib.Core.Logic.{⊎_elim}
-use mathlib.Core.Path.{◌≡◌, refl, ◌∙◌, subst}
-use Prim.Native.Nat.{◌-◌, ◌≤◌, ◌<◌}
+use mathlib.Core.Path.{refl, ◌∙◌, subst}
+use Prim.Native.Nat.{◌≤◌, ◌<◌}
 use native.Mathlib.Omega.{arith}
 use lib.ListN.{get_or}
-use borrow.Author.Rules.{rules}
 use Rattle.facts.specs.declared.Fact.{Fact}
 use Rattle.rules.specs.Paths.{next, goal_for}
 use Rattle.table.specs.Tables.{row_fact}
 use Rattle.question.specs.State.{PartOf}
 use Rattle.question.proofs.Laws.{holds_of, fails_of, holds-of-both, fails-of-both, room, to-most, most-or}
-use Rattle.question.proofs.Parts.{Noted, Followed, Marked, note-none, note-more, part-passed, part-noted, part-within}
-use Rattle.question.proofs.Passes.{Outer, Middle, Inner, middle-begin, inner-begin, inner-skip, inner-push, inner-stays, inner-met, inner-end, outer-again, outer-none, begun-outer, left-none, left-met}
+use Rattle.question.proofs.Parts.{Followed, Marked, note-none, note-more, part-passed, part-noted, part-within}
+use Rattle.question.proofs.Passes.{middle-begin, inner-begin, inner-skip, inner-push, inner-stays, inner-met, inner-end, outer-again, outer-none, begun-outer, left-none, left-met}
 use Rattle.search_layers.proofs.rounds.Goals as goal
 use Rattle.search_layers.proofs.rounds.Goals.{then-s-j-eq0+then-follows+else-ends, then-s-j-eq0+else-follows, else-s-j-eq0}
 use Rattle.search_layers.proofs.rounds.Goals.{After-loop-j, After-part_of-p, In-loop-j, In-loop-q, In-passes, Then-follows}
@@ -145,19 +143,19 @@ loop-j-preserved c =
     let a = c.row_fact-a.ensures in
     let way = next z.args.w in
     elim c.if-s-j-eq0.branch [
-      then-s-j-eq0+then-follows+else-ends w ↦
-        let few = z.requires.rising.few in
-        let h = j-few (goal.at-loop-j-preserved c).In-loop-j in
-        let b = w.row_fact-b.ensures in
-        let x = holds-of-both way w.follows.ensures a b w.if-follows.true in
-        rw w.s-is (
-          inner-push _ _ _ _ l.j few d h w.if-s-j-eq0.true x (fails_of (goal_for z.args.t) w.ends.ensures b w.if-ends.false),
-          note-more _ _ _ (inner-stays _ _ _ _ l.j few d h w.if-s-j-eq0.true x) l.invariant.1,
-          l.invariant.2,
-          l.invariant.3,
-        )
-    | then-s-j-eq0+else-follows w ↦ rw w.s-is (inner-skip _ _ _ _ l.j d (λ x. absurd (fails-of-both way w.follows.ensures a w.row_fact-b.ensures w.if-follows.false x)), l.invariant.1, l.invariant.2, l.invariant.3)
-    | else-s-j-eq0 w ↦ rw w.s-is (inner-skip _ _ _ _ l.j d (λ x. most-or _ 0 (λ y. absurd (w.if-s-j-eq0.false (omega arith))) (λ y. y)), l.invariant.1, l.invariant.2, l.invariant.3)
+      | then-s-j-eq0+then-follows+else-ends w ↦
+          let few = z.requires.rising.few in
+          let h = j-few (goal.at-loop-j-preserved c).In-loop-j in
+          let b = w.row_fact-b.ensures in
+          let x = holds-of-both way w.follows.ensures a b w.if-follows.true in
+          rw w.s-is (
+            inner-push _ _ _ _ l.j few d h w.if-s-j-eq0.true x (fails_of (goal_for z.args.t) w.ends.ensures b w.if-ends.false),
+            note-more _ _ _ (inner-stays _ _ _ _ l.j few d h w.if-s-j-eq0.true x) l.invariant.1,
+            l.invariant.2,
+            l.invariant.3,
+          )
+      | then-s-j-eq0+else-follows w ↦ rw w.s-is (inner-skip _ _ _ _ l.j d (λ x. absurd (fails-of-both way w.follows.ensures a w.row_fact-b.ensures w.if-follows.false x)), l.invariant.1, l.invariant.2, l.invariant.3)
+      | else-s-j-eq0 w ↦ rw w.s-is (inner-skip _ _ _ _ l.j d (λ x. most-or _ 0 (λ y. absurd (w.if-s-j-eq0.false (omega arith))) (λ y. y)), l.invariant.1, l.invariant.2, l.invariant.3)
     ]
 
 pub bounds-done-d : goal.bounds-done-d

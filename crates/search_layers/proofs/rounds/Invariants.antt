@@ -1,19 +1,10 @@
 -- `search_layers::rounds` meets its contract. The invariants of its three passes are `Outer`, `Middle` and `Inner` of Passes, with what is noted
 -- as passed; a goal that is met ends the search with the least number of facts, and an empty frontier with none.
 -- Assumes nothing.
-use mathlib.Core.Logic.{⊎_elim}
-use mathlib.Core.Path.{◌≡◌, refl, ◌∙◌, subst}
-use Prim.Native.Nat.{◌-◌, ◌≤◌, ◌<◌}
-use native.Mathlib.Omega.{arith}
-use lib.ListN.{get_or}
-use borrow.Author.Rules.{rules}
-use Rattle.facts.specs.declared.Fact.{Fact}
-use Rattle.rules.specs.Paths.{next, goal_for}
-use Rattle.table.specs.Tables.{row_fact}
-use Rattle.question.specs.State.{PartOf}
-use Rattle.question.proofs.Laws.{holds_of, fails_of, holds-of-both, fails-of-both, room, to-most, most-or}
-use Rattle.question.proofs.Parts.{Noted, Followed, Marked, note-none, note-more, part-passed, part-noted, part-within}
-use Rattle.question.proofs.Passes.{Outer, Middle, Inner, middle-begin, inner-begin, inner-skip, inner-push, inner-stays, inner-met, inner-end, outer-again, outer-none, begun-outer, left-none, left-met}
+use mathlib.Core.Path.{◌≡◌}
+use Prim.Native.Nat.{◌-◌}
+use Rattle.question.proofs.Parts.{Noted, Marked}
+use Rattle.question.proofs.Passes.{Outer, Middle, Inner}
 use Rattle.search_layers.proofs.rounds.Given as goal
 
 abbrev pub invariant-loop-j : goal.invariant-loop-j

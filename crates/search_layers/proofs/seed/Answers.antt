@@ -1,10 +1,8 @@
 -- `search_layers::seed` meets its contract: each start is marked and queued in the layer 1, up to one that is a goal.
 -- Assumes nothing.
-use mathlib.Core.Logic.{⊎_elim}
 use mathlib.Core.Path.{refl, sym, subst}
-use Prim.Native.Nat.{◌+◌, ◌-◌, ◌<◌}
+use Prim.Native.Nat.{◌+◌, ◌<◌}
 use native.Mathlib.Omega.{arith}
-use borrow.Author.Rules.{rules}
 use Rattle.rules.specs.Paths.{start_for, goal_for}
 use Rattle.question.specs.declared.State.{State}
 use Rattle.question.proofs.Laws.{holds_of, fails_of, room}
@@ -69,9 +67,9 @@ loop-j-preserved c =
     let e = c.row_fact-a.ensures in
     let goes : State → Type 0 = λ s. Seeding z.args.row.now z.args.n z.args.w z.args.t (l.j + 1) s in
     elim c.if-starts.branch [
-      then-starts+else-ends w ↦ subst goes (sym w.s-is) (seeding-push _ _ _ _ l.j l.s z.requires.few l.invariant (j-few (goal.at-loop-j-preserved c).In-loop-j) (holds_of (start_for z.args.w z.args.t) c.starts.ensures e w.if-starts.true)
-    (fails_of (goal_for z.args.t) w.ends.ensures e w.if-ends.false))
-    | else-starts w ↦ subst goes (sym w.s-is) (seeding-skip _ _ _ _ l.j l.s l.invariant (fails_of (start_for z.args.w z.args.t) c.starts.ensures e w.if-starts.false))
+      | then-starts+else-ends w ↦ subst goes (sym w.s-is) (seeding-push _ _ _ _ l.j l.s z.requires.few l.invariant (j-few (goal.at-loop-j-preserved c).In-loop-j) (holds_of (start_for z.args.w z.args.t) c.starts.ensures e w.if-starts.true)
+          (fails_of (goal_for z.args.t) w.ends.ensures e w.if-ends.false))
+      | else-starts w ↦ subst goes (sym w.s-is) (seeding-skip _ _ _ _ l.j l.s l.invariant (fails_of (start_for z.args.w z.args.t) c.starts.ensures e w.if-starts.false))
     ]
 
 pub returns : goal.returns

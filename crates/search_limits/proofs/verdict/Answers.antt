@@ -4,7 +4,6 @@ use mathlib.Core.Path.{sym, ◌∙◌}
 use borrow.Author.Tests.{le-leb, lt-leb}
 use Rattle.facts.specs.Facts.{or_else}
 use Rattle.question.specs.Question.{needed, asked}
-use borrow.Author.Rules.{rules}
 use Rattle.search_limits.proofs.verdict.Goals as goal
 
 pub returns-then-limit-gt-LIMIT_MOST : goal.returns-then-limit-gt-LIMIT_MOST

@@ -1,6 +1,5 @@
 -- `search_links::ends` meets its contract: the tests are those of `goal_for`.
 -- Assumes nothing.
-use borrow.Author.Rules.{rules}
 use Rattle.rules.specs.Paths.{goal_for}
 use Rattle.search_links.proofs.ends.Goals as goal
 

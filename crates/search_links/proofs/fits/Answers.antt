@@ -1,6 +1,5 @@
 -- `search_links::fits` meets its contract: the two tests.
 -- Assumes nothing.
-use borrow.Author.Rules.{rules}
 use Rattle.rules.specs.Paths.{fits}
 use Rattle.search_links.proofs.fits.Goals as goal
 

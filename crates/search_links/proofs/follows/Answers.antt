@@ -3,7 +3,6 @@
 use Rattle.question.proofs.Laws.{or-none}
 use mathlib.Core.Path.{sym, ◌∙◌}
 use Rattle.rules.specs.Paths.{next, chain}
-use borrow.Author.Rules.{rules}
 use Rattle.search_links.proofs.follows.Goals as goal
 
 pub returns-then-is_property : goal.returns-then-is_property

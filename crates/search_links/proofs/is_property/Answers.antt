@@ -1,7 +1,6 @@
 -- `search_links::is_property` meets its contract: the tests are those of `property`.
 -- Assumes nothing.
 use Rattle.rules.specs.Paths.{property}
-use borrow.Author.Rules.{rules}
 use Rattle.search_links.proofs.is_property.Goals as goal
 
 pub returns : goal.returns

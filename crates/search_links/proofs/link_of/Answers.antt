@@ -2,7 +2,6 @@
 -- Assumes nothing.
 use mathlib.Core.Path.{sym, ◌∙◌}
 use Rattle.rules.specs.Paths.{link}
-use borrow.Author.Rules.{rules}
 use Rattle.search_links.proofs.link_of.Goals as goal
 
 pub returns-then-is_name : goal.returns-then-is_name

@@ -1,6 +1,5 @@
 -- `search_links::starts` meets its contract: the cases of `start_for`.
 -- Assumes nothing.
-use borrow.Author.Rules.{rules}
 use mathlib.Core.Path.{sym, ◌∙◌}
 use borrow.Author.Tests.{ne_eqb}
 use Rattle.rules.specs.Paths.{start_for, typed}

@@ -5,7 +5,6 @@ use mathlib.Core.Path.{sym, ap, ◌∙◌}
 use Rattle.facts.specs.declared.Fact.{Fact}
 use Rattle.rules.specs.Paths.{named}
 use Rattle.question.proofs.Moved.{rotated-print, print-same}
-use borrow.Author.Rules.{rules}
 use Rattle.search_order.proofs.print_order.Goals as goal
 
 pub overflow_cast-path : goal.overflow_cast-path

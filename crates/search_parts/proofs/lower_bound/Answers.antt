@@ -1,10 +1,8 @@
 -- `search_parts::lower_bound` meets its contract: below `lo` all subjects are below x, and from `lo + left` on none is.
 -- Assumes nothing.
-use mathlib.Core.Logic.{⊎_elim}
-use Prim.Native.Nat.{ℕ, ◌+◌, ◌-◌, ◌/◌, ◌≤◌, ◌<◌}
+use Prim.Native.Nat.{ℕ, ◌+◌, ◌-◌, ◌/◌}
 use native.Mathlib.Omega.{arith}
 use Rattle.table.specs.Tables.{row_fact}
-use Rattle.question.specs.Row.{subject_at}
 use Rattle.search_parts.proofs.lower_bound.Goals as goal
 use Rattle.search_parts.proofs.lower_bound.Goals.{then-row-mid, else-row-mid}
 
@@ -18,8 +16,8 @@ loop-left-preserved c =
     let half : ℕ = l.left / 2 in
     let m : ℕ = l.lo + half - 1 in
     elim c.if-row-mid.branch [
-      then-row-mid w ↦ rw w.lo-is (omega arith, λ k h. omega (arith, c.requires.rises k m (omega arith) (omega arith), w.if-row-mid.true), λ k h g. l.invariant.2 k (omega arith) g)
-    | else-row-mid w ↦ rw w.lo-is (omega arith, l.invariant.1, λ k h g. omega (arith, c.requires.rises m k (omega arith) g, w.if-row-mid.false))
+      | then-row-mid w ↦ rw w.lo-is (omega arith, λ k h. omega (arith, c.requires.rises k m (omega arith) (omega arith), w.if-row-mid.true), λ k h g. l.invariant.2 k (omega arith) g)
+      | else-row-mid w ↦ rw w.lo-is (omega arith, l.invariant.1, λ k h g. omega (arith, c.requires.rises m k (omega arith) g, w.if-row-mid.false))
     ]
 
 pub returns-then-row-lo : goal.returns-then-row-lo

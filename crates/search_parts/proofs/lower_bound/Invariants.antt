@@ -1,9 +1,6 @@
 -- `search_parts::lower_bound` meets its contract: below `lo` all subjects are below x, and from `lo + left` on none is.
 -- Assumes nothing.
-use mathlib.Core.Logic.{⊎_elim}
-use Prim.Native.Nat.{ℕ, ◌+◌, ◌-◌, ◌/◌, ◌≤◌, ◌<◌}
-use native.Mathlib.Omega.{arith}
-use Rattle.table.specs.Tables.{row_fact}
+use Prim.Native.Nat.{ℕ, ◌+◌, ◌≤◌, ◌<◌}
 use Rattle.question.specs.Row.{subject_at}
 use Rattle.search_parts.proofs.lower_bound.Given as goal
 

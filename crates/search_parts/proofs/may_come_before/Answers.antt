@@ -3,7 +3,6 @@
 use mathlib.Core.Path.{refl}
 use native.Mathlib.Omega.{arith}
 use borrow.Author.Tests.{le-leb, lt-leb}
-use borrow.Author.Rules.{rules}
 use Rattle.table.specs.Tables.{row_fact}
 use Rattle.question.specs.Row.{may_come_before}
 use Rattle.search_parts.proofs.may_come_before.Goals as goal

@@ -3,7 +3,6 @@
 use native.Mathlib.Omega.{arith}
 use Rattle.rules.specs.Paths.{property}
 use Rattle.question.proofs.Parts.{slot-most, part-some, part_none}
-use borrow.Author.Rules.{rules}
 use Rattle.search_parts.proofs.part_of.Goals as goal
 
 pub bounds-done-d : goal.bounds-done-d

@@ -1,9 +1,7 @@
 -- `search_parts::run_end` meets its contract: from `lo` on the subjects are x, up to the first that is above it.
 -- Assumes nothing.
-use Prim.Native.Nat.{ℕ, ◌+◌, ◌-◌, ◌≤◌, ◌<◌}
 use native.Mathlib.Omega.{arith}
 use Rattle.table.specs.Tables.{row_fact}
-use Rattle.question.specs.Row.{subject_at}
 use Rattle.question.proofs.Laws.{equal-or}
 use Rattle.search_parts.proofs.run_end.Goals as goal
 

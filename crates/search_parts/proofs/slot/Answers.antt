@@ -1,7 +1,6 @@
 -- `search_parts::slot` meets its contract: the two cases of `slot_of`.
 -- Assumes nothing.
 use mathlib.Core.Path.{sym, ◌∙◌}
-use borrow.Author.Rules.{rules}
 use Rattle.search_parts.proofs.slot.Goals as goal
 
 pub returns-then-is_property : goal.returns-then-is_property

@@ -1,6 +1,5 @@
 -- `search_parts::starting` meets its contract: the part of the subject, or the whole row.
 -- Assumes nothing.
-use borrow.Author.Rules.{rules}
 use Rattle.question.proofs.Ways.{starting-run}
 use Rattle.search_parts.proofs.starting.Goals as goal
 

@@ -5,13 +5,11 @@ use mathlib.Core.Path.{◌≡◌, refl, sym, ap, ◌∙◌}
 use mathlib.Core.List.{List, [], ◌∷◌}
 use Prim.Native.Nat.{ℕ, ◌+◌, ◌*◌, ◌-◌, ◌≤◌}
 use native.Mathlib.Omega.{arith}
-use lib.ListN.{length, get_or, length-take, length-drop}
-use borrow.Author.Rules.{rules}
+use lib.ListN.{length, length-take, length-drop}
 use borrow.Rule.Slice.PartMut.{same_len_mid}
-use Rattle.columns.specs.Lines.{Below, over}
+use Rattle.columns.specs.Lines.{over}
 use Rattle.columns.proofs.Parts.{part-more}
-use Rattle.facts.specs.declared.Fact.{Fact}
-use Rattle.table.specs.Tables.{terms, row_fact}
+use Rattle.table.specs.Tables.{row_fact}
 use Rattle.rules.specs.declared.Line.{Line}
 use Rattle.rules.specs.Derivations.{derivation_line}
 use Rattle.rules.specs.Printed.{join}
@@ -176,9 +174,12 @@ returns c =
     let z = c in
     let l = c.loop-k in
     let g = fact_at z.args.row.now z.args.path.now in
-    let k : l.k ≡ z.args.f = omega (arith, l.invariant.1, c.loop-k-test.false) in record { conclusion = l.invariant.6 ∙ ap (result_at g) k ∙ sym (result-last g z.args.f z.requires.placed.some); lines = l.invariant.5 ∙ rw k (ap (over (bytes_of g z.args.f)) (first-line (goal.at-returns c).After-put_line) ∙ over-over (bytes_of g z.args.f) (bytes_of g 1) z.args.out.now (omega (
+    let k : l.k ≡ z.args.f = omega (arith, l.invariant.1, c.loop-k-test.false) in record {
+      conclusion = l.invariant.6 ∙ ap (result_at g) k ∙ sym (result-last g z.args.f z.requires.placed.some);
+      lines = l.invariant.5 ∙ rw k (ap (over (bytes_of g z.args.f)) (first-line (goal.at-returns c).After-put_line) ∙ over-over (bytes_of g z.args.f) (bytes_of g 1) z.args.out.now (omega (
         arith,
         bytes-length g z.args.f,
         bytes-length g 1,
         z.requires.placed.some,
-      ))) }
+      )));
+    }

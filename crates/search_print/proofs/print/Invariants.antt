@@ -1,23 +1,14 @@
 -- `search_print::print` meets its contract. The loop's invariant: the derivation of the first k facts stands over the front of the output, and c is
 -- its result, on line i = 2 k - 1.
 -- Assumes nothing.
-use mathlib.Core.Path.{◌≡◌, refl, sym, ap, ◌∙◌}
-use mathlib.Core.List.{List, [], ◌∷◌}
-use Prim.Native.Nat.{ℕ, ◌+◌, ◌*◌, ◌-◌, ◌≤◌}
-use native.Mathlib.Omega.{arith}
-use lib.ListN.{length, get_or, length-take, length-drop}
-use borrow.Author.Rules.{rules}
-use borrow.Rule.Slice.PartMut.{same_len_mid}
+use mathlib.Core.Path.{◌≡◌}
+use mathlib.Core.List.{List}
+use Prim.Native.Nat.{ℕ, ◌*◌, ◌-◌, ◌≤◌}
+use lib.ListN.{length, get_or}
 use Rattle.columns.specs.Lines.{Below, over}
-use Rattle.columns.proofs.Parts.{part-more}
 use Rattle.facts.specs.declared.Fact.{Fact}
 use Rattle.table.specs.Tables.{terms, row_fact}
-use Rattle.rules.specs.declared.Line.{Line}
-use Rattle.rules.specs.Derivations.{derivation_line}
-use Rattle.rules.specs.Printed.{join}
-use Rattle.derivation.specs.Bytes.{line_bytes, derivation_bytes}
-use Rattle.derivation.proofs.Bytes.{derivation-length}
-use Rattle.question.proofs.Printing.{over-over, bytes_of, result_at, bytes-length, bytes-first, result-first, result-last, bytes-more, printing-below, join-below}
+use Rattle.question.proofs.Printing.{bytes_of, result_at}
 use Rattle.search_print.proofs.print.Given as goal
 
 -- the fact at the place i

@@ -1,6 +1,5 @@
 -- `table_lines::judge` meets its contract: the fact's own faults, and its order, are tried by `verdict`.
 -- Assumes nothing.
-use borrow.Author.Rules.{rules}
 use Rattle.table.specs.Judged.{judged}
 use Rattle.table_lines.proofs.judge.Goals as goal
 

@@ -4,7 +4,6 @@ use mathlib.Core.Path.{◌≡◌, sym, ◌∙◌}
 use mathlib.Core.Bool.{true, false}
 use Prim.Native.Nat.{◌*◌}
 use borrow.Author.Tests.{not-true, not-false}
-use borrow.Author.Rules.{rules}
 use Rattle.columns.specs.Lines.{laid_out}
 use Rattle.facts.specs.Facts.{fact}
 use Rattle.table.specs.Scans.{earns, first_earned}

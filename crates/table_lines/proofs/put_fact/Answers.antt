@@ -3,7 +3,6 @@
 use native.Mathlib.Numerals.{towards_suc}
 use native.Mathlib.Omega.{arith}
 use lib.ListN.{length-set}
-use borrow.Author.Rules.{rules}
 use Rattle.table_lines.proofs.put_fact.Goals as goal
 
 pub bounds-row-at-2 : goal.bounds-row-at-2

@@ -1,6 +1,5 @@
 -- `table_lines::row_fact` meets its contract: three reads.
 -- Assumes nothing.
-use borrow.Author.Rules.{rules}
 use Rattle.table.specs.Tables.{row_fact}
 use Rattle.table_lines.proofs.row_fact.Goals as goal
 

@@ -1,6 +1,5 @@
 -- `terms::is_gap` meets its contract: the number's kind is asked.
 -- Assumes nothing.
-use borrow.Author.Rules.{rules}
 use Rattle.facts.specs.Gaps.{is_gap}
 use Rattle.terms.proofs.is_gap.Goals as goal
 

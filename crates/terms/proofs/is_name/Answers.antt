@@ -1,6 +1,5 @@
 -- `terms::is_name` meets its contract: the number's kind is asked.
 -- Assumes nothing.
-use borrow.Author.Rules.{rules}
 use Rattle.terms.proofs.is_name.Goals as goal
 
 pub returns : goal.returns

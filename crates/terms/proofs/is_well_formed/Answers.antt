@@ -1,6 +1,5 @@
 -- `terms::is_well_formed` meets its contract: subject and object are asked, and then what the predicate must be.
 -- Assumes nothing.
-use borrow.Author.Rules.{rules}
 use mathlib.Core.Path.{sym, ◌∙◌}
 use Rattle.facts.proofs.Facts.{formed-names, formed-literal, formed-text}
 use Rattle.terms.proofs.is_well_formed.Goals as goal

@@ -1,13 +1,8 @@
 -- `token_index::cut` meets its contract. The loop's invariant: entries below `lo` are lighter than the token, and those from `hi` on are not.
 -- Assumes nothing.
-use mathlib.Core.Path.{sym, ◌∙◌}
-use Prim.Native.Nat.{ℕ, ◌+◌, ◌-◌, ◌/◌, ◌≤◌, ◌<◌}
-use native.Mathlib.Omega.{arith}
-use native.Mathlib.Numerals.{add-one}
-use borrow.Author.Tests.{ltb-true, ltb-false}
+use Prim.Native.Nat.{ℕ, ◌-◌, ◌≤◌, ◌<◌}
 use Rattle.numbering.specs.Weights.{weight}
 use Rattle.numbering.specs.Index.{token_at}
-use Rattle.ordered.proofs.Rising.{below-cut, above-cut}
 use Rattle.token_index.proofs.cut.Given as goal
 
 abbrev pub invariant-loop-lo : goal.invariant-loop-lo

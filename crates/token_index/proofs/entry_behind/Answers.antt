@@ -1,7 +1,5 @@
 -- `token_index::entry_behind` meets its contract.
 -- Assumes nothing.
-use native.Mathlib.Omega.{arith}
-use borrow.Author.Rules.{rules}
 use Rattle.numbering.specs.Index.{token_of}
 use Rattle.token_index.proofs.entry_behind.Goals as goal
 

@@ -1,9 +1,8 @@
 -- `token_index::is_smaller` meets its contract. The loop's invariant: the tokens agree from i on.
 -- Assumes nothing.
 use mathlib.Core.Path.{◌≡◌, sym, ◌∙◌}
-use Prim.Native.Nat.{◌≤◌}
 use native.Mathlib.Omega.{arith}
-use lib.ListN.{length, drop, drop_of_length-le}
+use lib.ListN.{length, drop_of_length-le}
 use Rattle.numbering.proofs.Weights.{decided, agreed, none_before}
 use Rattle.token_index.proofs.is_smaller.Goals as goal
 

@@ -1,6 +1,5 @@
 -- `token_index::next` meets its contract.
 -- Assumes nothing.
-use borrow.Author.Rules.{rules}
 use borrow.Author.Tests.{eq-eqb, ne_eqb}
 use Rattle.numbering.specs.Index.{next_of}
 use Rattle.token_index.proofs.next.Goals as goal

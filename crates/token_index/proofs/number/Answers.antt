@@ -3,7 +3,6 @@
 use mathlib.Core.Path.{◌≡◌, ap, subst, ◌∙◌}
 use native.Mathlib.Omega.{arith}
 use lib.ListN.{get_or}
-use borrow.Author.Rules.{rules}
 use Rattle.ntriples.specs.Tokens.{part}
 use Rattle.numbering.specs.declared.Numbered.{Numbered}
 use Rattle.ordered.specs.Inserted.{inserted}

@@ -1,9 +1,9 @@
 -- `vocabulary::is_same` meets its contract. The loop's invariant: the tokens agree from i on.
 -- Assumes nothing.
 use mathlib.Core.Path.{◌≡◌, sym, ap, ◌∙◌}
-use Prim.Native.Nat.{◌-◌, ◌≤◌}
+use Prim.Native.Nat.{◌-◌}
 use native.Mathlib.Omega.{arith}
-use lib.ListN.{length, get_or, drop, drop_of_length-le}
+use lib.ListN.{length, get_or, drop_of_length-le}
 use Rattle.numbering.proofs.Weights.{agreed}
 use Rattle.numbering.proofs.Numbering.{different, equal}
 use Rattle.vocabulary.proofs.is_same.Goals as goal

@@ -1,11 +1,8 @@
 -- `vocabulary::is_same` meets its contract. The loop's invariant: the tokens agree from i on.
 -- Assumes nothing.
-use mathlib.Core.Path.{◌≡◌, sym, ap, ◌∙◌}
-use Prim.Native.Nat.{◌-◌, ◌≤◌}
-use native.Mathlib.Omega.{arith}
-use lib.ListN.{length, get_or, drop, drop_of_length-le}
-use Rattle.numbering.proofs.Weights.{agreed}
-use Rattle.numbering.proofs.Numbering.{different, equal}
+use mathlib.Core.Path.{◌≡◌}
+use Prim.Native.Nat.{◌≤◌}
+use lib.ListN.{length, drop}
 use Rattle.vocabulary.proofs.is_same.Given as goal
 
 abbrev pub invariant-loop-i : goal.invariant-loop-i

@@ -3,7 +3,6 @@
 use mathlib.Core.Path.{◌≡◌, sym, ◌∙◌}
 use mathlib.Core.List.{List, [], ◌∷◌}
 use Prim.Native.Nat.{ℕ}
-use borrow.Author.Rules.{rules}
 use Rattle.numbering.specs.Numbering.{has}
 use Rattle.numbering.specs.Vocabulary.{bytes, vocabulary, sc, sp, dom, range, type}
 use Rattle.numbering.proofs.Vocabulary.{counted, counted-here, counted-behind}

@@ -6,7 +6,7 @@ use Prim.Native.Nat.{ℕ, ◌+◌, ◌-◌, ◌*◌, ◌≤◌}
 use native.Mathlib.Omega.{arith}
 use lib.ListN.{length, take, drop, length-take, length-drop}
 use borrow.Rule.Slice.PartMut.{same_len_mid}
-use Rattle.columns.specs.Lines.{flat, items_from, over}
+use Rattle.columns.specs.Lines.{flat, items_from}
 use Rattle.columns.proofs.Lines.{line-length}
 use Rattle.columns.proofs.Lists.{items-length, flat-more}
 use Rattle.columns.proofs.Parts.{part-more}

@@ -1,18 +1,10 @@
 -- `writer::put_lines` meets its contract. The loop's invariant: the lines of the facts passed stand over the front of the output.
 -- Assumes nothing.
-use mathlib.Core.Path.{◌≡◌, refl, sym, ◌∙◌}
-use mathlib.Core.List.{List}
-use Prim.Native.Nat.{ℕ, ◌+◌, ◌-◌, ◌*◌, ◌≤◌}
-use native.Mathlib.Omega.{arith}
-use lib.ListN.{length, take, drop, length-take, length-drop}
-use borrow.Rule.Slice.PartMut.{same_len_mid}
-use Rattle.columns.specs.Lines.{flat, items_from, over}
-use Rattle.columns.proofs.Lines.{line-length}
-use Rattle.columns.proofs.Lists.{items-length, flat-more}
-use Rattle.columns.proofs.Parts.{part-more}
-use Rattle.table.specs.Tables.{terms, line_of, table_bytes, row_fact}
-use Rattle.table.proofs.Rows.{bytes-length, row-part}
-use Rattle.table.proofs.Tables.{row_below}
+use mathlib.Core.Path.{◌≡◌}
+use Prim.Native.Nat.{◌-◌, ◌*◌, ◌≤◌}
+use lib.ListN.{length}
+use Rattle.columns.specs.Lines.{items_from, over}
+use Rattle.table.specs.Tables.{table_bytes, row_fact}
 use Rattle.writer.proofs.put_lines.Given as goal
 
 abbrev pub invariant-loop-i : goal.invariant-loop-i

@@ -1,15 +1,9 @@
 -- `writer::scan_row` meets its contract. The loop's invariant: the scan goes on from the fact reached, and `last` is the fact before it.
 -- Assumes nothing.
-use mathlib.Core.Path.{◌≡◌, sym, ◌∙◌}
-use Prim.Native.Nat.{◌+◌, ◌-◌, ◌/◌, ◌≤◌, ◌<◌}
-use native.Mathlib.Omega.{arith}
-use native.Mathlib.Nat.{sub-zero}
-use lib.ListN.{length}
-use borrow.Author.Rules.{rules}
+use mathlib.Core.Path.{◌≡◌}
+use Prim.Native.Nat.{◌-◌, ◌≤◌, ◌<◌}
 use Rattle.table.specs.Scans.{scan}
 use Rattle.table.specs.Tables.{row_fact, row_verdict, row_scan}
-use Rattle.table.proofs.Scans.{judged-line, scan-on, scan-stop, scan-end}
-use Rattle.table.proofs.Rows.{sized-torn, sized-large, sized-fits, scan-row}
 use Rattle.writer.proofs.scan_row.Given as goal
 
 abbrev pub invariant-loop-i : goal.invariant-loop-i

@@ -2,7 +2,6 @@
 -- Assumes nothing.
 use mathlib.Core.Path.{sym, ap, ◌∙◌}
 use native.Mathlib.Omega.{arith}
-use borrow.Author.Rules.{rules}
 use Rattle.facts.specs.declared.Answer.TheVariants.{Done}
 use Rattle.table.specs.Tables.{table_bytes, table_of_row}
 use Rattle.table.proofs.Rows.{bytes-length, scan-passes, scan-stops, row-size, row-facts, settle-refused, settle-short, settle-done}
