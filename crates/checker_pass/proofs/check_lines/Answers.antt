@@ -4,12 +4,11 @@ use mathlib.Core.Path.{◌≡◌, sym, ◌∙◌}
 use mathlib.Core.Bool.{true}
 use Prim.Native.Nat.{◌*◌}
 use native.Mathlib.Omega.{arith}
-use native.Mathlib.Nat.{add-zero}
-use borrow.Author.Tests.{eq-eqb, ne_eqb, not-true, not-false}
+use Rattle.std.proofs.lemmas.Bool.Decides.{nat_tests}
+use borrow.Author.Tests.{not-true, not-false}
 use Rattle.columns.specs.Lines.{laid_out}
 use Rattle.acceptance.proofs.Pass.{pass-none, pass-end, form-refused, step-refused, pass-more}
 use Rattle.checker_pass.proofs.check_lines.Goals as goal
-use Rattle.checker_pass.proofs.check_lines.Goals.{then-l-eq0, else-l-eq0}
 use Rattle.checker_pass.proofs.check_lines.Goals.{Else-is_torn}
 
 -- what the test for 9 leaves
@@ -39,8 +38,8 @@ loop-i-preserved c =
     let j = c in
     let e = j in
     let l = e.loop-i in
-    pass-more _ _ _ _ l.invariant (omega arith) e.read_line-l.ensures (laid (goal.at-loop-i-preserved c).Else-is_torn) (sym j.is_justified.ensures ∙ c.if-not-is_justified.false) (omega arith) _
-    (elim c.if-l-eq0.branch [ then-l-eq0 w ↦ w.count-is ∙ rw (eq-eqb _ _ w.if-l-eq0.true) | else-l-eq0 w ↦ w.count-is ∙ rw (ne_eqb _ _ w.if-l-eq0.false, add-zero) ])
+    pass-more _ _ _ _ l.invariant (omega arith) e.read_line-l.ensures (laid (goal.at-loop-i-preserved c).Else-is_torn) (cc) (omega arith) _
+    (grind (arith, nat_tests))
 
 pub returns : goal.returns
 returns c = c.check_end.ensures ∙ pass-end _ _ _ _ c.loop-i.invariant (omega arith) (omega arith)

@@ -1,13 +1,12 @@
 -- `fact_keys::add_key` meets its contract.
 -- Assumes nothing.
-use mathlib.Core.Path.{◌≡◌, sym, ◌∙◌}
+use mathlib.Core.Path.{◌≡◌, ◌∙◌}
 use Prim.Native.Nat.{◌<◌}
 use native.Mathlib.Omega.{arith}
 use lib.ListN.{get_or}
 use Rattle.gathering.specs.Keys.{key_of, Cut}
 use Rattle.gathering.proofs.Keys.{keys-rise, adds-held, adds-new}
 use Rattle.fact_keys.proofs.add_key.Goals as goal
-use Rattle.fact_keys.proofs.add_key.Goals.{then-k-n+else-keys-k, else-k-n}
 
 pub cut_key-k-requires : goal.cut_key-k-requires
 cut_key-k-requires c =
@@ -18,7 +17,7 @@ pub returns-then-keys-k : goal.returns-then-keys-k
 returns-then-keys-k c gs held =
     let s = c in
     let k = c in
-    adds-held s.args.keys.now s.args.n gs held s.args.f s.requires.1 k.cut_key-k.result c.if-k-n.true
+    adds-held s.args.keys.now s.args.n gs held s.args.f s.requires.1 k.cut_key-k.result (omega arith)
     (c.if-keys-k.true ∙ k.key_of-key.ensures)
 
 pub returns : goal.returns
@@ -30,5 +29,5 @@ returns c gs held =
     let keys = s.args.keys.now in
     let cut : Cut keys s.args.n (key_of s.args.f) k.result = rw e at k.ensures in
     let other : k.result < s.args.n → get_or keys k.result 0 ≡ key_of s.args.f → ⊥ =
-    λ l q. elim c.if-k-n.branch [ then-k-n+else-keys-k w ↦ w.if-keys-k.false (q ∙ sym e) | else-k-n w ↦ absurd (omega (arith, w.if-k-n.false)) ] in
+    λ l q. grind arith in
     rw (c.insert.ensures, e) (adds-new keys s.args.n gs held s.args.f s.requires.1 k.result s.requires.0.more cut other)
