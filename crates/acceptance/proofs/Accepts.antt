@@ -1,5 +1,6 @@
 -- The check accepts exactly the derivations of at most 2,047 lines, with the number of their table lines.
 -- Assumes nothing.
+use Rattle.std.specs.Prelude.{Err}
 use mathlib.Core.Path.{◌≡◌, refl, sym, ap, ◌∙◌}
 use mathlib.Core.Logic.{◌↔◌}
 use mathlib.Core.Bool.{Bool, true, false, cond, ◌&&◌}
@@ -18,16 +19,13 @@ use Rattle.columns.proofs.Lists.{items-length, items_more, items-listed}
 use Rattle.facts.specs.declared.Fact.{Fact}
 use Rattle.facts.specs.declared.Refusal.{Refusal}
 use Rattle.facts.specs.declared.Refusal.TheVariants.{Form, Step, End}
-use Rattle.facts.specs.declared.Verdict.TheVariants.{Sound, Faulty}
-use Rattle.facts.specs.declared.Answer.{Answer}
-use Rattle.facts.specs.declared.Answer.TheVariants.{Accepted, Refused}
+use Rattle.facts.specs.Results.{Sound, Faulty, Answer, Accepted, Refused}
 use Rattle.facts.specs.Facts.{fact, well_formed, fault_of}
 use Rattle.facts.specs.Answers.{code_of}
 use Rattle.facts.proofs.Terms.{by_cases, T_of, of_T}
 use Rattle.facts.proofs.Facts.{fault-none}
 use Rattle.facts.proofs.Codes.{told-accepted}
-use Rattle.table.specs.declared.Scan.{Scan}
-use Rattle.table.specs.declared.Scan.TheVariants.{Passes, Stops}
+use Rattle.table.specs.Results.{Scan, Passes}
 use Rattle.table.specs.Scans.{scan}
 use Rattle.table.specs.Tables.{table_of, accepted, sized}
 use Rattle.table.proofs.Rows.{sized-fits, sized-says}
@@ -105,7 +103,7 @@ derivation-below {facts} {t} {d} wf few derives i z h = justified-below wf (rw l
 after-accepted : (s : Scan) (a : Answer) (c : ℕ) → after s a ≡ Accepted c → ((m : ℕ) × (s ≡ Passes m)) × (a ≡ Accepted c)
 unfolding after
 after-accepted (Passes m) a c e = ((m, refl), e)
-after-accepted (Stops r place) a c e = let z : ◌≡◌ {A = ℕ} 0 1 = cc in absurd (omega arith)
+after-accepted (Err stop) a c e = let z : ◌≡◌ {A = ℕ} 0 1 = cc in absurd (omega arith)
 
 picked : (b : Bool) (r : Refusal) → cond b Sound (Faulty r) ≡ Sound → b ≡ true
 picked true r e = refl

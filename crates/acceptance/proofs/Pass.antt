@@ -11,77 +11,71 @@ use lib.Dec.{eqb}
 use Rattle.columns.specs.Lines.{laid_out, items_from}
 use Rattle.facts.specs.declared.Fact.{Fact}
 use Rattle.facts.specs.declared.Refusal.TheVariants.{Form, Step, End}
-use Rattle.facts.specs.declared.Answer.TheVariants.{Accepted, Refused}
+use Rattle.facts.specs.Results.{Accepted, Refused}
 use Rattle.facts.proofs.Terms.{by_cases}
 use Rattle.table.specs.Scans.{scan}
 use Rattle.table.proofs.Scans.{scan-on, scan-stop, scan-end}
-use Rattle.rules.specs.declared.Line.{Line}
 use Rattle.rules.specs.Derivations.{table_lines}
 use Rattle.rules.specs.Steps.{same, justified}
 use Rattle.derivation.specs.Bytes.{line_at}
-use Rattle.derivation.specs.Read.{read_at}
-use Rattle.derivation.proofs.Bytes.{read-laid}
-use Rattle.acceptance.specs.declared.Near.{Near}
 use Rattle.acceptance.specs.Check.{lines_of, form_verdict, step_verdict, after, end_answer, lines_answer}
 use Rattle.acceptance.specs.Near.{Behind}
 use Rattle.acceptance.proofs.Lines.{count-more}
 
+-- ---- the facts at hand
+
+pub behind-none : (x : List ℕ) (p q : Fact) → Behind x 0 p q
+behind-none x p q = record { there = omega arith; last = λ h. absurd (omega arith); before = λ h. absurd (omega arith) }
+
+pub behind-more : {x : List ℕ} {i : ℕ} {p q : Fact} → Behind x i p q → 31 * (i + 1) ≤ length x → (f : Fact) → f ≡ (line_at x i).fact → Behind x (i + 1) f p
+behind-more {i = i} b size f e =
+    let k : i + 1 - 1 ≡ i = omega arith in
+    let j : i + 1 - 2 ≡ i - 1 = omega arith in
+    record { there = size; last = λ z. rw k e; before = λ z. rw j (b.last (omega arith)) }
+
+-- ---- the lines passed
+
 module _ (facts : List Fact) (t : Fact) (x : List ℕ) (n : ℕ) where
   -- neither scan has stopped at the first i of the n lines; count of these are table lines
-  pub record Passed (i : ℕ) (near : Near) (count : ℕ) : Type 0 where
+  pub record Passed (i count : ℕ) : Type 0 where
     pub within : i ≤ n
     pub answer : lines_answer facts t x n ≡ after (scan (form_verdict x) i (n - i)) (after (scan (step_verdict facts x) i (n - i)) (end_answer t x n))
-    pub behind : Behind x i near
     pub few : count ≤ i
     pub counted : count ≡ table_lines (lines_of x i)
 
-  pub pass-none : (near : Near) → Passed 0 near 0
+  pub pass-none : Passed 0 0
   unfolding lines_answer table_lines items_from
-  pass-none near =
-      record {
-        within = omega arith;
-        answer = rw sub-zero;
-        behind = record { there = omega arith; last = λ h. absurd (omega arith); before = λ h. absurd (omega arith) };
-        few = omega arith;
-        counted = refl;
-      }
+  pass-none = record { within = omega arith; answer = rw sub-zero; few = omega arith; counted = refl }
 
-  pub pass-end : {near : Near} {count i : ℕ} → Passed i near count → i ≡ n → 0 < n → cond (same near.last t) (Accepted count) (Refused End n) ≡ lines_answer facts t x n
+  pub pass-end : {p q : Fact} {count i : ℕ} → Passed i count → Behind x i p q → i ≡ n → 0 < n → cond (same p t) (Accepted count) (Refused End n) ≡ lines_answer facts t x n
   unfolding after end_answer
-  pass-end {count = count} {i = i} p e h =
-      let c : count ≡ table_lines (lines_of x n) = p.counted ∙ rw e in
+  pass-end {count = count} {i = i} s b e h =
+      let c : count ≡ table_lines (lines_of x n) = s.counted ∙ rw e in
       let k : i - 1 ≡ n - 1 = omega arith in
-      sym (p.answer ∙ rw (scan-end (form_verdict x) n i e, scan-end (step_verdict facts x) n i e, p.behind.last (omega arith), k, c))
+      sym (s.answer ∙ rw (scan-end (form_verdict x) n i e, scan-end (step_verdict facts x) n i e, b.last (omega arith), k, c))
 
   -- the next line
-  module _ {i count : ℕ} {near : Near} (p : Passed i near count) (h : i < n) where
+  module _ {i count : ℕ} (s : Passed i count) (h : i < n) where
     pub form-refused : laid_out 6 x (31 * i) ≡ false → Refused Form (i + 1) ≡ lines_answer facts t x n
     unfolding form_verdict after
-    form-refused e = sym (p.answer ∙ rw (scan-stop (form_verdict x) n i {r = Form} h (rw e)))
+    form-refused e = sym (s.answer ∙ rw (scan-stop (form_verdict x) n i {r = Form} h (rw e)))
 
-    -- what was read of it, where it is laid out
-    module _ {l : Line} (read : l ≡ read_at x i) (laid : laid_out 6 x (31 * i) ≡ true) where
-      says : l ≡ line_at x i
-      says = read ∙ read-laid x i laid
-
+    -- where it is laid out
+    module _ (laid : laid_out 6 x (31 * i) ≡ true) where
       forms-on : scan (form_verdict x) i (n - i) ≡ scan (form_verdict x) (i + 1) (n - (i + 1))
       unfolding form_verdict
       forms-on = scan-on (form_verdict x) n i h (rw laid)
 
-      pub step-refused : justified facts (lines_of x i) l ≡ false → after (scan (form_verdict x) (i + 1) (n - (i + 1))) (Refused Step (i + 1)) ≡ lines_answer facts t x n
+      pub step-refused : justified facts (lines_of x i) (line_at x i) ≡ false → after (scan (form_verdict x) (i + 1) (n - (i + 1))) (Refused Step (i + 1)) ≡ lines_answer facts t x n
       unfolding step_verdict after
-      step-refused e = sym (p.answer ∙ rw (forms-on, scan-stop (step_verdict facts x) n i {r = Step} h (rw (← says, e))))
+      step-refused e = sym (s.answer ∙ rw (forms-on, scan-stop (step_verdict facts x) n i {r = Step} h (rw e)))
 
-      pub pass-more : justified facts (lines_of x i) l ≡ true → 31 * n ≤ length x → (count' : ℕ) → count' ≡ count + cond (eqb l.rule 0) 1 0
-          → Passed (i + 1) (record { last = l.fact; before = near.last }) count'
+      pub pass-more : justified facts (lines_of x i) (line_at x i) ≡ true → (more : ℕ) → more ≡ count + cond (eqb (line_at x i).rule 0) 1 0 → Passed (i + 1) more
       unfolding step_verdict
-      pass-more e size count' more =
-          let k : i + 1 - 1 ≡ i = omega arith in
-          let j : i + 1 - 2 ≡ i - 1 = omega arith in
+      pass-more e more m =
           record {
             within = omega arith;
-            answer = p.answer ∙ rw (forms-on, scan-on (step_verdict facts x) n i h (rw (← says, e)));
-            behind = record { there = omega arith; last = λ z. rw (k, says); before = λ z. rw j (p.behind.last (omega arith)) };
-            few = by_cases (eqb l.rule 0) (λ z. let m = rw z at more in omega (arith, p.few)) (λ z. let m = rw z at more in omega (arith, p.few));
-            counted = more ∙ rw (count-more x i, p.counted, says);
+            answer = s.answer ∙ rw (forms-on, scan-on (step_verdict facts x) n i h (rw e));
+            few = by_cases (eqb (line_at x i).rule 0) (λ z. let k = rw z at m in omega (arith, s.few)) (λ z. let k = rw z at m in omega (arith, s.few));
+            counted = m ∙ rw (count-more x i, s.counted);
           }

@@ -1,19 +1,15 @@
 -- The check of a derivation, as a computation (document 01, "Derivation lines and their check" and the order of refusals: "The
 -- check tries table, triple, 9 over all lines, 10, 11").
 -- Assumes nothing.
-use Rattle.std.specs.Prelude.{◌≡◌, ◌↔◌, Bool, cond, ◌&&◌, List, ℕ, ◌-◌, ◌*◌, ◌/◌, ◌≤◌, ◌<◌, length, T, eqb, ltb}
+use Rattle.std.specs.Prelude.{Err, ◌≡◌, ◌↔◌, Bool, cond, ◌&&◌, List, ℕ, ◌-◌, ◌*◌, ◌/◌, ◌≤◌, ◌<◌, length, T, eqb, ltb}
 use Rattle.columns.specs.Lines.{laid_out, items_from}
 use Rattle.facts.specs.declared.Fact.{Fact}
 use Rattle.facts.specs.declared.Refusal.TheVariants.{Form, Step, End}
-use Rattle.facts.specs.declared.Verdict.{Verdict}
-use Rattle.facts.specs.declared.Verdict.TheVariants.{Sound, Faulty}
-use Rattle.facts.specs.declared.Answer.{Answer}
-use Rattle.facts.specs.declared.Answer.TheVariants.{Accepted, Refused}
+use Rattle.facts.specs.Results.{Verdict, Sound, Faulty, Answer, Accepted, Refused}
 use Rattle.facts.specs.declared.Code.{Code}
 use Rattle.facts.specs.Facts.{well_formed, fault_of}
 use Rattle.facts.specs.Answers.{AcceptedWith}
-use Rattle.table.specs.declared.Scan.{Scan}
-use Rattle.table.specs.declared.Scan.TheVariants.{Passes, Stops}
+use Rattle.table.specs.Results.{Scan, Passes}
 use Rattle.table.specs.Scans.{scan}
 use Rattle.table.specs.Tables.{Table, TableFacts, accepted, refused, sized, table_bytes, table_of}
 use Rattle.rules.specs.declared.Line.{Line}
@@ -45,7 +41,7 @@ step_verdict facts x i = cond (justified facts (lines_of x i) (line_at x i)) Sou
 -- a scan's refusal, or else a further answer
 unfoldable pub after : Scan → Answer → Answer
 after (Passes n) a = a
-after (Stops r place) a = Refused r place
+after (Err stop) a = Refused stop.refusal stop.place
 
 -- 11: the last of n lines is not the fact put; else accepted, with the number of table lines
 unfoldable pub end_answer : Fact → List ℕ → ℕ → Answer

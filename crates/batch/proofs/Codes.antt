@@ -16,10 +16,7 @@ use Rattle.facts.specs.declared.Fact.{Fact}
 use Rattle.facts.specs.declared.Code.{Code}
 use Rattle.facts.specs.declared.Refusal.{Refusal}
 use Rattle.facts.specs.declared.Refusal.TheVariants.{Size, Column, Term, Blank, Part, Order, Allowance, Short, Form, Step, End, Class, Statement, UnknownNode, Crowd}
-use Rattle.facts.specs.declared.Verdict.{Verdict}
-use Rattle.facts.specs.declared.Verdict.TheVariants.{Sound, Faulty}
-use Rattle.facts.specs.declared.Answer.{Answer}
-use Rattle.facts.specs.declared.Answer.TheVariants.{Refused}
+use Rattle.facts.specs.Results.{Verdict, Sound, Faulty, Answer, Refused}
 use Rattle.facts.specs.Facts.{has_no_term, misplaced, text_as_class, or_else}
 use Rattle.facts.specs.Gaps.{blank_refused, question_fault}
 use Rattle.facts.specs.Answers.{code_of, number_of}

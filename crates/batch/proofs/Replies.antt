@@ -1,18 +1,22 @@
 -- Laws of replies: their length, and how a reply comes about in lent memory.
 -- Assumes nothing.
+use Rattle.std.specs.Prelude.{Err, Option, None, Some}
 use mathlib.Core.Path.{◌≡◌, refl, sym, ap, ◌∙◌}
-use mathlib.Core.List.{List, ◌++◌, append_assoc}
+use mathlib.Core.Logic.{◌⊎◌, inl, inr}
+use mathlib.Core.Bool.{◌&&◌}
+use mathlib.Core.List.{List, [], ◌++◌, append_assoc}
+use Rattle.facts.proofs.Terms.{by_cases}
 use Prim.Native.Nat.{ℕ, ◌+◌, ◌≤◌, ◌<◌}
 use native.Mathlib.Omega.{arith}
 use lib.ListN.{length, take, drop, length-append, length-drop, take-append-drop}
 use lib.Seq.{length-take-le, drop_at, drop-drop, drop-append-le}
-use borrow.Author.Tests.{le-leb, lt-ltb}
+use lib.Dec.{leb, ltb}
+use borrow.Author.Tests.{le-leb, lt-leb, lt-ltb, le-ltb}
 use borrow.Rule.Slice.PartMut.{put_mid}
 use Rattle.columns.specs.Lines.{over}
 use Rattle.columns.proofs.Lines.{line-length}
 use Rattle.facts.specs.declared.Fact.{Fact}
-use Rattle.facts.specs.declared.Answer.{Answer}
-use Rattle.facts.specs.declared.Answer.TheVariants.{Done, Yes, No, Long, Accepted, Refused}
+use Rattle.facts.specs.Results.{Answer, Done, Yes, No, Long, Accepted, Refused}
 use Rattle.table.specs.Tables.{Table, accepted, refused, table_of}
 use Rattle.table.proofs.Rows.{accepted-size}
 use Rattle.question.specs.Question.{needed, answer_from, question_answer, printed_from, written, output_after, question, Answered}
@@ -20,7 +24,7 @@ use Rattle.rules.proofs.Chosen.{fewest-few}
 use Rattle.question.proofs.Answered.{yes-fewest, prints-length}
 use Rattle.batch.specs.declared.Query.{Query}
 use Rattle.batch.specs.Input.{questions_behind}
-use Rattle.batch.specs.Output.{code_line, behind_code, reply_size, reply_to, reply, longest, reply_in}
+use Rattle.batch.specs.Output.{code_line, behind_code, reply_size, reply_to, reply, longest, reply_in, reply_length}
 
 -- ---- lent memory
 
@@ -64,7 +68,7 @@ module _ (table : List ℕ) (t : Fact) (limit size : ℕ) where
   behind-length (Long f) e = (refl, omega arith)
   behind-length (Done n) e = (refl, omega arith)
   behind-length (Accepted n) e = (refl, omega arith)
-  behind-length (Refused r place) e = (refl, omega arith)
+  behind-length (Err stop) e = (refl, omega arith)
 
 -- ---- a reply in lent memory
 
@@ -76,7 +80,7 @@ written_behind No derivation old = refl
 written_behind (Long f) derivation old = refl
 written_behind (Done n) derivation old = refl
 written_behind (Accepted n) derivation old = refl
-written_behind (Refused r place) derivation old = refl
+written_behind (Err stop) derivation old = refl
 
 -- the answer of a question that is put with the 63,457 bytes behind the first 16
 pub reply-answer : (table : List ℕ) (q : Query) (out part : List ℕ) (a : Answer) → longest ≤ length out → Answered (question table q.fact q.limit) (take 63457 (drop 16 out)) part a
@@ -103,3 +107,28 @@ reply-put table q out part a h r =
 pub reply-fits : (b : List ℕ) (size k m : ℕ) → longest ≤ m → k < questions_behind b size → reply_in b size k m ≡ reply b size k
 unfolding reply_in
 reply-fits b size k m h l = rw (le-leb longest m h, lt-ltb k (questions_behind b size) l)
+
+pub length-fits : (b : List ℕ) (size k m : ℕ) → longest ≤ m → k < questions_behind b size → reply_length b size k m ≡ Some (length (reply b size k))
+unfolding reply_length
+length-fits b size k m h l = rw (le-leb longest m h, lt-ltb k (questions_behind b size) l)
+
+-- and else nothing is
+pub reply-none : (b : List ℕ) (size k m : ℕ) → (m < longest) ⊎ (questions_behind b size ≤ k) → (reply_length b size k m ≡ None) × (reply_in b size k m ≡ [])
+unfolding reply_length reply_in
+reply-none b size k m (inl h) = rw (lt-leb longest m h) (refl, refl)
+reply-none b size k m (inr h) = by_cases (leb longest m) (λ e. rw (e, le-ltb k (questions_behind b size) h) (refl, refl)) (λ e. rw e (refl, refl))
+
+-- its length is that of what is written
+pub some-written : (b : List ℕ) (size k m n : ℕ) → reply_length b size k m ≡ Some n → n ≡ length (reply_in b size k m)
+unfolding reply_length reply_in
+some-written b size k m n =
+    by_cases (leb longest m && ltb k (questions_behind b size))
+    (λ e l. let x : ◌≡◌ {A = Option ℕ} (Some (length (reply b size k))) (Some n) = rw e at l in let y : n ≡ length (reply b size k) = cc in rw e y)
+    (λ e l. let x : ◌≡◌ {A = Option ℕ} None (Some n) = rw e at l in cc)
+
+pub none-written : (b : List ℕ) (size k m : ℕ) → reply_length b size k m ≡ None → reply_in b size k m ≡ []
+unfolding reply_length reply_in
+none-written b size k m =
+    by_cases (leb longest m && ltb k (questions_behind b size))
+    (λ e l. let x : ◌≡◌ {A = Option ℕ} (Some (length (reply b size k))) None = rw e at l in cc)
+    (λ e l. rw e)

@@ -3,6 +3,7 @@
 use mathlib.Core.Path.{◌≡◌, refl, sym, ap, ◌∙◌}
 use mathlib.Core.Bool.{true, false, ◌&&◌}
 use mathlib.Core.List.{List, [], ◌∷◌, ◌++◌}
+use Rattle.std.specs.Prelude.{Option, None, Some}
 use Prim.Native.Nat.{ℕ, zero, suc, ◌+◌, ◌*◌, ◌/◌, ◌%◌, ◌≤◌, ◌<◌}
 use native.Mathlib.Omega.{arith}
 use native.Mathlib.Nat.{add-zero, zero-add}
@@ -16,14 +17,14 @@ use Rattle.columns.proofs.Fields.{both}
 use Rattle.columns.proofs.Lines.{line-length, line_read, line-written}
 use Rattle.columns.proofs.Lists.{flat-length}
 use Rattle.facts.specs.declared.Refusal.TheVariants.{Form}
-use Rattle.facts.specs.declared.Answer.TheVariants.{Refused}
+use Rattle.facts.specs.Results.{Refused}
 use Rattle.facts.proofs.Terms.{by_cases}
 use Rattle.facts.proofs.Facts.{fact-eq}
-use Rattle.batch.specs.declared.Input.{Input}
-use Rattle.batch.specs.declared.Input.TheVariants.{Torn, Parts}
+use Rattle.batch.specs.declared.Parts.{Parts}
 use Rattle.batch.specs.declared.Query.{Query}
-use Rattle.batch.specs.Input.{is_zero_line, bytes_behind, questions_behind, all_laid, parts_behind, divided_from, layout_of, question_at}
+use Rattle.batch.specs.Input.{is_zero_line, bytes_behind, questions_behind, all_laid, parts, parts_behind, divided_from, layout_of, question_at}
 use Rattle.batch.specs.Output.{code_line, reply_to, reply, longest, reply_in, output_by, output_of}
+use Rattle.batch.proofs.Inputs.{divided-at}
 use Rattle.batch.proofs.Replies.{reply-fits}
 use Rattle.batch.specs.Whole.{zero_line, query_numbers, question_line, AllBelow, Laid}
 
@@ -34,7 +35,7 @@ module _ (b : List ℕ) (at : ℕ) where
   unfolding numbers_at
   zero-numbers = let e : at + 5 + 5 ≡ at + 10 = omega arith in rw e
 
-  zero-written : at + 16 ≤ length b → is_zero_line b at ≡ true → take 16 (drop at b) ≡ zero_line
+  pub zero-written : at + 16 ≤ length b → is_zero_line b at ≡ true → take 16 (drop at b) ≡ zero_line
   unfolding is_zero_line
   zero-written h e =
       let x₃ = both _ (eqb (number_at b (at + 10)) 0) e in
@@ -43,7 +44,7 @@ module _ (b : List ℕ) (at : ℕ) where
       let n : numbers_at 3 b at ≡ 0 ∷ 0 ∷ 0 ∷ [] = rw (zero-numbers, eqb-true (number_at b at) 0 x₁.1, eqb-true (number_at b (at + 5)) 0 x₂.1, eqb-true (number_at b (at + 10)) 0 x₃.1) in
       rw ((line-written 3 b at h x₁.0).0, n) (take_at zero_line (drop (at + 16) b) 16 (line-length (0 ∷ 0 ∷ 0 ∷ [])))
 
-  zero-read : take 16 (drop at b) ≡ zero_line → is_zero_line b at ≡ true
+  pub zero-read : take 16 (drop at b) ≡ zero_line → is_zero_line b at ≡ true
   unfolding is_zero_line
   zero-read e =
       let d : drop at b ≡ zero_line ++ drop 16 (drop at b) = sym (take-append-drop 16 (drop at b)) ∙ ap (λ x. x ++ drop 16 (drop at b)) e in
@@ -53,25 +54,15 @@ module _ (b : List ℕ) (at : ℕ) where
 
 -- ---- the divider: the first zero line
 
-divided-at : (b : List ℕ) (m k i : ℕ) → k < m → ((j : ℕ) → j < k → is_zero_line b (16 * (i + j)) ≡ false) → is_zero_line b (16 * (i + k)) ≡ true
-    → divided_from b i m ≡ parts_behind b (16 * (i + k))
-unfolding divided_from
-divided-at b zero k i h n z = absurd (omega arith)
-divided-at b (suc m) zero i h n z = rw (rw add-zero at z, add-zero)
-divided-at b (suc m) (suc k) i h n z =
-    let e : i + suc k ≡ suc i + k = omega arith in
-    rw (rw add-zero at (n 0 (omega arith)), e)
-    (divided-at b m k (suc i) (omega arith) (λ j l. let f : suc i + j ≡ i + suc j = omega arith in rw f (n (suc j) (omega arith))) (rw e at z))
-
 -- the first zero line of an input that is not torn
 record Divided (b : List ℕ) (i m s n : ℕ) : Type 0 where
   line : ℕ
   within : line < m
   none : (j : ℕ) → j < line → is_zero_line b (16 * (i + j)) ≡ false
   here : is_zero_line b (16 * (i + line)) ≡ true
-  parts : parts_behind b (16 * (i + line)) ≡ Parts s n
+  parts : parts_behind b (16 * (i + line)) ≡ Some (parts s n)
 
-divided-says : (b : List ℕ) (m i s n : ℕ) → divided_from b i m ≡ Parts s n → Divided b i m s n
+divided-says : (b : List ℕ) (m i s n : ℕ) → divided_from b i m ≡ Some (parts s n) → Divided b i m s n
 unfolding divided_from
 divided-says b zero i s n e = let z : ◌≡◌ {A = ℕ} 0 1 = cc in absurd (omega arith)
 divided-says b (suc m) i s n e =
@@ -90,16 +81,17 @@ divided-says b (suc m) i s n e =
 
 -- ---- what stands behind it
 
-parts-say : (b : List ℕ) (size s n : ℕ) → parts_behind b size ≡ Parts s n
+parts-say : (b : List ℕ) (size s n : ℕ) → parts_behind b size ≡ Some (parts s n)
     → (s ≡ size) × (n ≡ questions_behind b size) × (bytes_behind b size % 21 ≡ 0) × (all_laid b (size + 16) (questions_behind b size) ≡ true)
 unfolding parts_behind
 parts-say b size s n e =
     by_cases (eqb (bytes_behind b size % 21) 0 && all_laid b (size + 16) (questions_behind b size))
-    (λ t. let x : Parts size (questions_behind b size) ≡ Parts s n = rw t at e in
+    (λ t. let x : ◌≡◌ {A = Option Parts} (Some (parts size (questions_behind b size))) (Some (parts s n)) = rw t at e in
     let y = both (eqb (bytes_behind b size % 21) 0) (all_laid b (size + 16) (questions_behind b size)) t in
-    let p : s ≡ size = cc in let q : n ≡ questions_behind b size = cc in
+    let same : parts s n ≡ parts size (questions_behind b size) = cc in
+    let p : s ≡ size = ap (λ (k : Parts). k.table) same in let q : n ≡ questions_behind b size = ap (λ (k : Parts). k.questions) same in
     (p, q, eqb-true _ 0 y.0, y.1))
-    (λ t. let x : Torn ≡ Parts s n = rw t at e in let z : ◌≡◌ {A = ℕ} 0 1 = cc in absurd (omega arith))
+    (λ t. let x : ◌≡◌ {A = Option Parts} None (Some (parts s n)) = rw t at e in let z : ◌≡◌ {A = ℕ} 0 1 = cc in absurd (omega arith))
 
 -- ---- questions
 
@@ -158,7 +150,7 @@ line-front : (table rest : List ℕ) (at : ℕ) → at + 16 ≤ length table →
 line-front table rest at h = rw (drop-append-le at table rest (omega arith)) (take-append-le 16 (drop at table) rest (rw length-drop (omega arith)))
 
 laid-layout : (b table : List ℕ) (qs : List Query) → Laid b table qs
-    → (layout_of b ≡ Parts (length table) (length qs)) × (asks b (length table + 16) 0 (length qs) ≡ qs) × (take (length table) b ≡ table)
+    → (layout_of b ≡ Some (parts (length table) (length qs))) × (asks b (length table + 16) 0 (length qs) ≡ qs) × (take (length table) b ≡ table)
 unfolding layout_of parts_behind
 laid-layout b table qs l =
     let size = length table in
@@ -183,14 +175,14 @@ laid-layout b table qs l =
       rw l.bytes (take_at table (zero_line ++ rest) size refl),
     )
 
-layout-divided : (b : List ℕ) (size n : ℕ) → layout_of b ≡ Parts size n → (length b ≤ 32768) × Divided b 0 (length b / 16) size n
+layout-divided : (b : List ℕ) (size n : ℕ) → layout_of b ≡ Some (parts size n) → (length b ≤ 32768) × Divided b 0 (length b / 16) size n
 unfolding layout_of
 layout-divided b size n e =
     by_cases (leb (length b) 32768)
     (λ f. (leb-true _ _ f, divided-says b (length b / 16) 0 size n (rw f at e)))
-    (λ f. let x : Torn ≡ Parts size n = rw f at e in let z : ◌≡◌ {A = ℕ} 0 1 = cc in absurd (omega arith))
+    (λ f. let x : ◌≡◌ {A = Option Parts} None (Some (parts size n)) = rw f at e in let z : ◌≡◌ {A = ℕ} 0 1 = cc in absurd (omega arith))
 
-layout-laid : (b : List ℕ) (size n : ℕ) → layout_of b ≡ Parts size n → Laid b (take size b) (asks b (size + 16) 0 n)
+layout-laid : (b : List ℕ) (size n : ℕ) → layout_of b ≡ Some (parts size n) → Laid b (take size b) (asks b (size + 16) 0 n)
 layout-laid b size n e = go (layout-divided b size n e).1
   where
     go : Divided b 0 (length b / 16) size n → Laid b (take size b) (asks b (size + 16) 0 n)
@@ -247,19 +239,19 @@ pub torn-output : (b : List ℕ) → ((table : List ℕ) (qs : List Query) → L
 unfolding output_of output_by
 torn-output b none = go (layout_of b) refl
   where
-    go : (i : Input) → layout_of b ≡ i → output_of b ≡ code_line (Refused Form 0)
-    go Torn e = rw e
-    go (Parts size n) e = absurd (none _ _ (layout-laid b size n e))
+    go : (i : Option Parts) → layout_of b ≡ i → output_of b ≡ code_line (Refused Form 0)
+    go None e = rw e
+    go (Some p) e = absurd (none _ _ (layout-laid b p.table p.questions e))
 
 -- an input that is not torn has the whole questions behind its table, in at most 32,768 bytes
-pub layout-questions : (b : List ℕ) (size n : ℕ) → layout_of b ≡ Parts size n → (length b ≤ 32768) × (n ≡ questions_behind b size)
+pub layout-questions : (b : List ℕ) (size n : ℕ) → layout_of b ≡ Some (parts size n) → (length b ≤ 32768) × (n ≡ questions_behind b size)
 layout-questions b size n e =
     let d = layout-divided b size n e in
     let p = parts-say b (16 * (0 + d.1.line)) size n d.1.parts in
     (d.0, rw p.0 p.1)
 
 -- the calls of `reply` for each question, one behind the other, write the whole output
-pub replies-output : (b : List ℕ) (size n m : ℕ) → layout_of b ≡ Parts size n → longest ≤ m → output_of b ≡ flat (λ k. reply_in b size k m) (items_from (λ k. k) 0 n)
+pub replies-output : (b : List ℕ) (size n m : ℕ) → layout_of b ≡ Some (parts size n) → longest ≤ m → output_of b ≡ flat (λ k. reply_in b size k m) (items_from (λ k. k) 0 n)
 unfolding output_of output_by
 replies-output b size n m e h =
     let there = (layout-questions b size n e).1 in

@@ -1,15 +1,13 @@
 -- The program's output: a reply to each question (document 01, "Panel and program").
 -- Assumes nothing.
-use Rattle.std.specs.Prelude.{cond, ◌&&◌, List, [], ◌∷◌, ◌++◌, ℕ, ◌+◌, ◌*◌, take, leb, ltb}
+use Rattle.std.specs.Prelude.{Err, cond, ◌&&◌, List, [], ◌∷◌, ◌++◌, ℕ, ◌+◌, ◌*◌, take, leb, ltb, Option, None, Some, length}
 use Rattle.columns.specs.Lines.{line, flat, items_from}
 use Rattle.facts.specs.declared.Refusal.TheVariants.{Form}
-use Rattle.facts.specs.declared.Answer.{Answer}
-use Rattle.facts.specs.declared.Answer.TheVariants.{Done, Yes, No, Long, Accepted, Refused}
+use Rattle.facts.specs.Results.{Answer, Done, Yes, No, Long, Accepted, Refused}
 use Rattle.facts.specs.Answers.{code_of}
 use Rattle.table.specs.Tables.{table_of}
 use Rattle.question.specs.Question.{needed, question_answer, printed_from}
-use Rattle.batch.specs.declared.Input.{Input}
-use Rattle.batch.specs.declared.Input.TheVariants.{Torn, Parts}
+use Rattle.batch.specs.declared.Parts.{Parts}
 use Rattle.batch.specs.declared.Query.{Query}
 use Rattle.batch.specs.Input.{questions_behind, layout_of, question_at}
 
@@ -28,7 +26,7 @@ behind_code No derivation = []
 behind_code (Long f) derivation = []
 behind_code (Done n) derivation = []
 behind_code (Accepted n) derivation = []
-behind_code (Refused r place) derivation = []
+behind_code (Err stop) derivation = []
 
 -- the bytes of the reply with an answer: a line, and 2 f - 1 lines of derivation behind a yes
 abbrev pub reply_size : Answer → ℕ
@@ -37,7 +35,7 @@ reply_size No = 16
 reply_size (Long f) = 16
 reply_size (Done n) = 16
 reply_size (Accepted n) = 16
-reply_size (Refused r place) = 16
+reply_size (Err stop) = 16
 
 -- the reply to a question about a table's bytes; it is put with memory enough for every limit
 unfoldable pub reply_to : List ℕ → Query → List ℕ
@@ -60,11 +58,16 @@ unfoldable pub reply_in : List ℕ → ℕ → ℕ → ℕ → List ℕ
 unfolding reply
 reply_in b size k m = cond (leb longest m && ltb k (questions_behind b size)) (reply b size k) []
 
+-- and its length, or none where nothing is written
+unfoldable pub reply_length : List ℕ → ℕ → ℕ → ℕ → Option ℕ
+unfolding reply
+reply_length b size k m = cond (leb longest m && ltb k (questions_behind b size)) (Some (length (reply b size k))) None
+
 -- the output of an input by its parts: `    9    0    0` where it is torn, and else the replies, one behind the other
-unfoldable pub output_by : List ℕ → Input → List ℕ
+unfoldable pub output_by : List ℕ → Option Parts → List ℕ
 unfolding code_line reply flat items_from
-output_by b Torn = code_line (Refused Form 0)
-output_by b (Parts size n) = flat (reply b size) (items_from (λ k. k) 0 n)
+output_by b None = code_line (Refused Form 0)
+output_by b (Some p) = flat (reply b p.table) (items_from (λ k. k) 0 p.questions)
 
 -- all that the program is to print
 unfoldable pub output_of : List ℕ → List ℕ

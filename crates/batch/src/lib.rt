@@ -4,11 +4,11 @@
 
 use facts::Fact;
 
-// An input: torn, or the bytes of its table and the number of its questions.
+// The parts of an input that is not torn: the bytes of its table, and the number of its questions.
 #[derive(Clone, Copy)]
-pub enum Input {
-    Torn,
-    Parts { table: usize, questions: usize },
+pub struct Parts {
+    pub table: usize,
+    pub questions: usize,
 }
 
 // A question: its triple and its limit, document 01's allowance.

@@ -1,15 +1,17 @@
 // The classes of bytes in N-Triples, and runs of bytes of one class (document 02, Point 3).
 #![tactic(auto)]
 
-ghost use Rattle.std.specs.Prelude.{◌≡◌};
+ghost use Rattle.std.specs.Prelude.{◌≡◌, ◌≢◌, ◌≤◌, ◌<◌, length};
+ghost use Rattle.std.specs.Bool.{OnTrue};
 ghost use Rattle.ntriples.specs.declared.Class.TheVariants.{Iri, Quoted};
 ghost use Rattle.ntriples.specs.Classes.{belongs};
-ghost use Rattle.ntriples.specs.Lexed.{byte_at, run_end};
+ghost use Rattle.ntriples.specs.Lexed.{byte_at, run, run_end};
 
-use ntriples::{Class, LINE_END};
+use ntriples::{COLON, Class, HYPHEN, LINE_END, STOP, UNDERSCORE};
 
 // The byte may stand in an IRI. The barred ones below 64 and those above are tried apart: of all in a row the compiler makes a table of
 // places to jump to, 264 bytes wherever IRIs are read.
+#[tactic(auto, unfolding(ntriples::specs::Classes::belongs))]
 fn is_of_iri(b: u8) -> bool
     ensures { result ≡ belongs Iri b }
 {
@@ -21,6 +23,7 @@ fn is_of_iri(b: u8) -> bool
 }
 
 // The byte may stand between a literal's quotes; tried in two parts, as in an IRI.
+#[tactic(auto, unfolding(ntriples::specs::Classes::belongs))]
 fn is_of_quoted(b: u8) -> bool
     ensures { result ≡ belongs Quoted b }
 {
@@ -32,47 +35,53 @@ fn is_of_quoted(b: u8) -> bool
 }
 
 // The byte is of the class.
+#[tactic(auto, unfolding(ntriples::specs::Classes::belongs))]
 pub fn is_of(c: Class, b: u8) -> bool
-    ensures { result ≡ belongs c b }
+    ensures value { result ≡ belongs c b }
+    ensures inside { OnTrue result (b ≢ 10) }
 {
     match c {
         Class::White => (b == 32) | (b == 9),
         Class::Iri => is_of_iri(b),
         Class::Quoted => is_of_quoted(b),
         Class::Comment => !((b == 10) | (b == 13)),
-        Class::Letter => ((65 <= b) & (b <= 90)) | ((97 <= b) & (b <= 122)),
-        Class::LetterDigit => {
-            (((65 <= b) & (b <= 90)) | ((97 <= b) & (b <= 122))) | ((48 <= b) & (b <= 57))
-        }
+        Class::Letter => b.is_ascii_alphabetic(),
+        Class::LetterDigit => b.is_ascii_alphanumeric(),
         Class::Label => {
-            (((65 <= b) & (b <= 90)) | ((97 <= b) & (b <= 122)))
-                | ((48 <= b) & (b <= 57))
-                | (b == 95)
-                | (b == 58)
-                | (b == 45)
-                | (b == 46)
+            b.is_ascii_alphanumeric()
+                | (b == UNDERSCORE)
+                | (b == COLON)
+                | (b == HYPHEN)
+                | (b == STOP)
                 | (127 < b)
         }
+        Class::Line => b != LINE_END,
     }
 }
 
-// The byte at a place, or a line end behind the last.
+// The byte at a place, or a line end behind the last. A line and a place stay two parameters, here and above: only the places go on, so that a
+// struct of both would be built anew at each step, and say no more.
 pub fn byte_at(s: &[u8], at: usize) -> u8
-    ensures { result ≡ byte_at s.now at }
+    ensures value { result ≡ byte_at s.now at }
+    ensures inside { result ≢ 10 → at < length s.now }
 {
-    if at < s.len() { s[at] } else { LINE_END }
+    s.get(at).copied().unwrap_or(LINE_END)
+}
+
+// How many bytes of a class stand in front.
+fn run(c: Class, s: &[u8]) -> usize
+    ensures count { result ≡ run c s.now }
+    ensures within { result ≤ length s.now }
+{
+    s.iter().take_while(|b| is_of(c, **b)).count()
 }
 
 // Where the bytes of a class end that begin at a place.
+#[tactic(auto, unfolding(ntriples::specs::Lexed::run_end))]
 pub fn run_end(c: Class, s: &[u8], at: usize) -> usize
-    ensures { result ≡ run_end c s.now at }
+    ensures value { result ≡ run_end c s.now at }
+    ensures behind { at ≤ result }
+    ensures within { at ≤ length s.now → result ≤ length s.now }
 {
-    let mut i = at;
-    while i < s.len() {
-        if !is_of(c, s[i]) {
-            return i;
-        }
-        i += 1;
-    }
-    i
+    at + run(c, s.get(at..).unwrap_or_default())
 }

@@ -2,94 +2,52 @@
 // table, the bytes of its derivation, and the fact put: subject, predicate, object), then those bytes.
 #![tactic(auto)]
 
-ghost use Rattle.std.specs.Prelude.{◌+◌, ◌≤◌, ◌<◌, length};
+ghost use Rattle.std.specs.Prelude.{◌≡◌, ◌+◌, [], ◌∷◌, get_or, None, Some};
+ghost use Rattle.case_runner.specs.Cases.{Ran};
 
-use columns::NO_FIELD;
-use facts::{Answer, Fact};
+use case_runner::Cases;
+use facts::Fact;
 use std::io;
 use std::io::Stdout;
 
-// The fields and bytes of a case's first line, the bytes of an answer, and the most bytes of all cases.
-const HEAD_FIELDS: usize = 5;
-
-const HEAD_BYTES: usize = 26;
-
-const ANSWER_BYTES: usize = 16;
-
+// The most bytes of all cases.
 const INPUT_BYTES: usize = 360000;
 
-// Memory for all cases.
-fn input_space() -> [u8; INPUT_BYTES] {
-    [0u8; INPUT_BYTES]
+// Where the answers are printed.
+#[derive(Drop)]
+struct Checks {
+    to: Stdout,
 }
 
-// Prints the last five digits of the number, place and count of an answer.
-fn show(to: Stdout, a: Answer) {
-    let code = codes::code_of(a);
-    let numbers = [
-        code.number % NO_FIELD,
-        code.place % NO_FIELD,
-        code.count % NO_FIELD,
-    ];
-    let mut line = [0u8; ANSWER_BYTES];
-    field_writer::put_line(&numbers, &mut line);
-    let _ = to.write_all(&line);
-}
+impl Cases<5> for Checks {
+    ghost behind = { λ ns. Some (get_or ns 0 0 + get_or ns 1 0) };
 
-// The fact put, by the fields from a place on.
-fn fact_put(input: &[u8], at: usize) -> Fact
-    requires { at + 15 ≤ length input.now }
-{
-    let subject = digit_reader::number_at(input, at);
-    let predicate = digit_reader::number_at(input, at + 5);
-    let object = digit_reader::number_at(input, at + 10);
-    Fact {
-        subject: subject,
-        predicate: predicate,
-        object: object,
+    fn bytes_behind(&self, numbers: [u32; 5]) -> Option<usize>
+        ensures { result ≡ Some (get_or numbers 0 0 + get_or numbers 1 0) }
+    {
+        let [table, derivation, ..] = numbers;
+        Some(table as usize + derivation as usize)
     }
-}
 
-// Runs the case at a place, and gives where the next begins; what is no case ends the run.
-fn run_case(input: &[u8], at: usize, to: Stdout) -> usize
-    requires { at + 26 ≤ length input.now }
-    ensures { (at < result) × (result ≤ length input.now) }
-{
-    let end = input.len();
-    if !line_layout::is_laid_out(HEAD_FIELDS, input, at) {
-        return end;
-    }
-    let table = at + HEAD_BYTES;
-    let table_bytes = digit_reader::number_at(input, at) as usize;
-    if end - table < table_bytes {
-        return end;
-    }
-    let derivation = table + table_bytes;
-    let derivation_bytes = digit_reader::number_at(input, at + 5) as usize;
-    if end - derivation < derivation_bytes {
-        return end;
-    }
-    let next = derivation + derivation_bytes;
-    let fact = fact_put(input, at + 10);
-    show(
-        to,
-        checker::check(&input[table..derivation], fact, &input[derivation..next]),
-    );
-    next
-}
-
-// Runs the cases one after the other.
-fn run(input: &[u8], to: Stdout) {
-    let mut at = 0;
-    while HEAD_BYTES <= input.len() - at {
-        at = run_case(input, at, to);
+    fn run(&mut self, numbers: [u32; 5], bytes: &[u8])
+        ensures { Ran None None ((numbers, bytes.now) ∷ []) }
+    {
+        let [table, _, subject, predicate, object] = numbers;
+        let Some((table, derivation)) = bytes.split_at_checked(table as usize) else {
+            return;
+        };
+        let fact = Fact {
+            subject,
+            predicate,
+            object,
+        };
+        let code = codes::code_of(checker::check(table, fact, derivation));
+        let _ = case_runner::print_line(&mut self.to, [code.number, code.place, code.count]);
     }
 }
 
 // Reads the cases and runs them.
 fn main(rt: HostRuntime) -> io::Result<()> {
-    let mut input = input_space();
-    let n = stream_reader::read_full(&mut rt.stdin(), &mut input)?;
-    run(&input[..n], rt.stdout());
-    Ok(())
+    let mut checks = Checks { to: rt.stdout() };
+    case_runner::read_and_run(&mut rt.stdin(), &mut [0u8; INPUT_BYTES], &mut checks)
 }

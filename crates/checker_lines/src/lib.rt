@@ -1,108 +1,87 @@
 // Part of the check: whether one derivation line is a table line or a rule's result.
 #![tactic(auto)]
 
-ghost use Rattle.std.specs.Prelude.{◌≡◌, ◌+◌, ◌-◌, ◌≤◌, ◌<◌};
+ghost use Rattle.std.specs.Prelude.{◌≡◌, MatchOption};
+ghost use Rattle.std.proofs.Math.Option.{none, some};
 ghost use Rattle.rules.specs.Graph.{any};
+ghost use Rattle.rules.specs.Derivations.{fact_on};
 ghost use Rattle.rules.specs.Steps.{same, justified};
-ghost use Rattle.derivation.specs.Bytes.{line_at};
 ghost use Rattle.acceptance.specs.Check.{lines_of, table_line, rule_line};
 ghost use Rattle.acceptance.specs.Near.{Behind};
-ghost use Rattle.acceptance.specs.Holds.{row_facts, Ascends, FactCut};
+ghost use Rattle.acceptance.specs.Holds.{Ascends};
 
-use acceptance::Near;
 use facts::Fact;
 use rules::Line;
 
-// How many of the row's n facts come before f.
-fn lower_bound(row: &[u32], n: usize, f: Fact) -> usize
-    requires { Ascends row.now n }
-    ensures { FactCut row.now n f result }
-{
-    let mut lo = 0;
-    let mut hi = n;
-    while lo < hi {
-        let mid = lo + (hi - lo) / 2;
-        if faults::comes_before(table_lines::row_fact(row, mid), f) {
-            lo = mid + 1;
-        } else {
-            hi = mid;
+// A table's facts, in ascending order.
+#[derive(Clone, Copy)]
+pub struct Table<'a> {
+    pub facts: &'a [Fact],
+    pub ghost ascends: { Ascends facts.now },
+}
+
+impl Table<'_> {
+    // The table has f.
+    #[tactic(auto, using(acceptance::proofs::Lookup::look_up))]
+    fn holds(self, f: Fact) -> bool
+        ensures { result ≡ any (same f) self.entry.facts.now }
+    {
+        self.facts.binary_search(&f).is_ok()
+    }
+
+    // A line marked as a table line is one: premises 0, and its fact in the table.
+    fn has_line(self, l: Line) -> bool
+        ensures { result ≡ table_line self.entry.facts.now l }
+    {
+        l.first == 0 && l.second == 0 && self.holds(l.fact)
+    }
+}
+
+// The first lines of a derivation, of which the facts on the last and on the one before it are at hand: the lines of a printed
+// derivation rest on the two lines before them.
+#[derive(Clone, Copy)]
+pub struct Before<'a> {
+    pub derivation: &'a [u8],
+    pub count: usize,
+    pub last: Fact,
+    pub second_last: Fact,
+    pub ghost behind: { Behind derivation.now count last second_last },
+}
+
+impl Before<'_> {
+    // The fact on line k, counted from 1, if that is one of the lines.
+    fn premise(self, k: u32) -> Option<Fact>
+        ensures { MatchOption result (fact_on (lines_of self.entry.derivation.now self.entry.count) k ≡ none) (λ f. fact_on (lines_of self.entry.derivation.now self.entry.count) k ≡ some f) }
+    {
+        let place = (k as usize).checked_sub(1)?;
+        match self.count.saturating_sub(place) {
+            0 => None,
+            1 => Some(self.last),
+            2 => Some(self.second_last),
+            _ => Some(derivation_lines::fact_at(self.derivation, place)),
         }
     }
-    lo
+
+    // A rule gives the line from two of the lines before it.
+    #[tactic(auto, unfolding(rules::specs::Steps::step_from))]
+    fn give(self, l: Line) -> bool
+        ensures { result ≡ rule_line (lines_of self.entry.derivation.now self.entry.count) l }
+    {
+        let (Some(p), Some(q)) = (self.premise(l.first), self.premise(l.second)) else {
+            return false;
+        };
+        rule_steps::step(l.rule, p, q, l.fact)
+    }
 }
 
-// The row's n facts hold f.
-fn holds(row: &[u32], n: usize, f: Fact) -> bool
-    requires { Ascends row.now n }
-    ensures { result ≡ any (same f) (row_facts row.now n) }
-{
-    let i = lower_bound(row, n, f);
-    if n <= i {
-        return false;
-    }
-    rule_steps::is_same(f, table_lines::row_fact(row, i))
-}
-
-// A line marked as a table line is one: premises 0, and its fact in the table.
-fn is_table_line(row: &[u32], n: usize, l: Line) -> bool
-    requires { Ascends row.now n }
-    ensures { result ≡ table_line (row_facts row.now n) l }
-{
-    if l.first != 0 {
-        return false;
-    }
-    if l.second != 0 {
-        return false;
-    }
-    holds(row, n, l.fact)
-}
-
-// The fact on line k, counted from 1, of the i lines before.
-fn premise(derivation: &[u8], i: usize, k: usize, near: Near) -> Fact
-    requires { Behind derivation.now i near × (0 < k) × (k ≤ i) }
-    ensures { result ≡ (line_at derivation.now (k - 1)).fact }
-{
-    if k == i {
-        return near.last;
-    }
-    if k + 1 == i {
-        return near.before;
-    }
-    derivation_lines::fact_at(derivation, k - 1)
-}
-
-// A rule gives the line from two of the i lines before it.
-fn is_rule_line(derivation: &[u8], i: usize, l: Line, near: Near) -> bool
-    requires { Behind derivation.now i near }
-    ensures { result ≡ rule_line (lines_of derivation.now i) l }
-{
-    let first = l.first as usize;
-    let second = l.second as usize;
-    if first == 0 {
-        return false;
-    }
-    if i < first {
-        return false;
-    }
-    if second == 0 {
-        return false;
-    }
-    if i < second {
-        return false;
-    }
-    let p = premise(derivation, i, first, near);
-    let q = premise(derivation, i, second, near);
-    rule_steps::step(l.rule, p, q, l.fact)
-}
-
-// The line is a table line, or a rule gives it from two of the i lines before it.
-pub fn is_justified(row: &[u32], n: usize, derivation: &[u8], i: usize, l: Line, near: Near) -> bool
-    requires { Ascends row.now n × Behind derivation.now i near }
-    ensures { result ≡ justified (row_facts row.now n) (lines_of derivation.now i) l }
+// The line is a table line, or a rule gives it from two of the lines before it.
+#[tactic(auto, unfolding(rules::specs::Steps::justified))]
+pub fn is_justified(table: Table, before: Before, l: Line) -> bool
+    ensures { result ≡ justified table.entry.facts.now (lines_of before.entry.derivation.now before.entry.count) l }
 {
     if l.rule == 0 {
-        is_table_line(row, n, l)
+        table.has_line(l)
     } else {
-        is_rule_line(derivation, i, l, near)
+        before.give(l)
     }
 }

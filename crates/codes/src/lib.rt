@@ -2,11 +2,11 @@
 #![tactic(auto)]
 
 ghost use Rattle.std.specs.Prelude.{◌≡◌};
-ghost use Rattle.facts.specs.Answers.{code_of, number_of, numbered, yes_naming};
+ghost use Rattle.facts.specs.Answers.{code_of, number_of};
 
-use facts::{Answer, Code, Refusal};
+use facts::{Answer, Code, Outcome, Refusal, Refused};
 
-// The papers' number for a refusal.
+// The papers' number for a refusal. As discriminants in `facts` the fifteen numbers would be no fewer, and a `From` could stand only there.
 fn refusal_number(r: Refusal) -> u32
     ensures { result ≡ number_of r }
 {
@@ -29,40 +29,41 @@ fn refusal_number(r: Refusal) -> u32
     }
 }
 
-// A code by its three numbers, which names no term.
-fn numbers(number: u32, place: u32, count: u32) -> Code
-    ensures { result ≡ numbered number place count }
-{
-    Code {
-        number: number,
-        place: place,
-        count: count,
-        filling: 0,
-    }
-}
+// The code whose numbers are all 0, in place of those that an answer doesn't name.
+const ZERO: Code = Code {
+    number: 0,
+    place: 0,
+    count: 0,
+    filling: 0,
+};
 
-// Yes with a count, and the term that it names.
-fn yes_naming(count: u32, filling: u32) -> Code
-    ensures { result ≡ yes_naming count filling }
-{
-    Code {
-        number: 90,
-        place: 0,
-        count: count,
-        filling: filling,
-    }
-}
-
-// Number, place and count of an answer, and the term that a yes names.
+// Number, place and count of an answer, and the term that a yes names. No `From`: an answer is a Result, which is not of this repository.
 pub fn code_of(a: Answer) -> Code
     ensures { result ≡ code_of a }
 {
     match a {
-        Answer::Done(n) => numbers(0, 0, n),
-        Answer::Yes(n, x) => yes_naming(n, x),
-        Answer::No => numbers(91, 0, 0),
-        Answer::Long(n) => numbers(92, 0, n),
-        Answer::Accepted(n) => numbers(93, 0, n),
-        Answer::Refused(r, p) => numbers(refusal_number(r), p, 0),
+        Ok(Outcome::Done(count)) => Code { count, ..ZERO },
+        Ok(Outcome::Yes(count, filling)) => Code {
+            number: 90,
+            count,
+            filling,
+            ..ZERO
+        },
+        Ok(Outcome::No) => Code { number: 91, ..ZERO },
+        Ok(Outcome::Long(count)) => Code {
+            number: 92,
+            count,
+            ..ZERO
+        },
+        Ok(Outcome::Accepted(count)) => Code {
+            number: 93,
+            count,
+            ..ZERO
+        },
+        Err(Refused { refusal, place }) => Code {
+            number: refusal_number(refusal),
+            place,
+            ..ZERO
+        },
     }
 }

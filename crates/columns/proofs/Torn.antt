@@ -1,16 +1,17 @@
 -- A line read field by field: it is laid out exactly where each field is one and byte 10 ends it, and says then what was read.
 -- Assumes nothing.
-use mathlib.Core.Path.{◌≡◌, refl}
-use mathlib.Core.Bool.{Bool, true, not, ◌||◌}
+use mathlib.Core.Path.{◌≡◌, refl, sym}
+use mathlib.Core.Bool.{Bool, true, false, not, ◌||◌}
 use mathlib.Core.List.{List, [], ◌∷◌}
 use Prim.Native.Nat.{ℕ, zero, suc, ◌+◌}
 use lib.ListN.{get_or}
 use lib.Dec.{eqb}
 use borrow.Author.Tests.{eqb-true, eqb-false}
-use Rattle.columns.specs.Fields.{is_field, field_at}
+use Rattle.columns.specs.Fields.{is_field, field_at, field_read}
+use Rattle.std.specs.Prelude.{Some, None}
 use Rattle.columns.specs.Lines.{numbers_at, laid_out}
 use Rattle.columns.proofs.Fields.{both}
-use Rattle.columns.proofs.Columns.{by_cases, field-number, field-none, field-some}
+use Rattle.columns.proofs.Columns.{by_cases, field-number, field-none, field-some, some-field, none-field}
 
 -- the k fields from a place on as they are read: 100,000 where none stands
 unfoldable pub fields_at : ℕ → List ℕ → ℕ → List ℕ
@@ -34,3 +35,14 @@ pub read-line : (k : ℕ) (s : List ℕ) (at : ℕ) → laid_out k s at ≡ true
 unfolding fields_at numbers_at laid_out
 read-line zero s at e = refl
 read-line (suc k) s at e = let b = both (is_field s at) (laid_out k s (at + 5)) e in rw (field-number s at b.0, read-line k s (at + 5) b.1)
+
+-- ---- field by field, up to the first that is none
+
+-- behind a field the rest of the line decides
+pub laid-on : (k : ℕ) (s : List ℕ) (at j : ℕ) {n : ℕ} → Some n ≡ field_read s at → j ≡ at + 5 → laid_out (suc k) s at ≡ laid_out k s j
+unfolding laid_out
+laid-on k s at j {n} e f = rw ((some-field s at n (sym e)).0, f)
+
+pub laid-torn : (k : ℕ) (s : List ℕ) (at : ℕ) → None ≡ field_read s at → laid_out (suc k) s at ≡ false
+unfolding laid_out
+laid-torn k s at e = rw (none-field s at (sym e))

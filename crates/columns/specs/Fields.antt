@@ -1,6 +1,6 @@
 -- A decimal number in five columns: right-justified, spaces before it, no leading zero (document 01, "Table layout").
 -- Only `/ 10` and `% 10` are used. Assumes nothing.
-use Rattle.std.specs.Prelude.{Bool, cond, ◌&&◌, List, [], ◌∷◌, ℕ, ◌+◌, ◌*◌, ◌/◌, ◌%◌, get_or, eqb}
+use Rattle.std.specs.Prelude.{Bool, cond, ◌&&◌, List, [], ◌∷◌, ℕ, ◌+◌, ◌*◌, ◌/◌, ◌%◌, get_or, eqb, Option, Some, None}
 
 -- the byte in a column, where n is what the number has from that column leftwards: a space where nothing is left
 unfoldable pub column : ℕ → ℕ
@@ -31,3 +31,7 @@ is_field s at = has_field s at (number_at s at)
 -- the number that a field has, or else 100,000, which no field has
 unfoldable pub field_at : List ℕ → ℕ → ℕ
 field_at s at = cond (is_field s at) (number_at s at) 100000
+
+-- the number that a field has, or none where no field stands
+unfoldable pub field_read : List ℕ → ℕ → Option ℕ
+field_read s at = cond (is_field s at) (Some (number_at s at)) None

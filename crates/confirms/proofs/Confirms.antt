@@ -8,8 +8,7 @@ use lib.ListN.{length, take, drop, length-append}
 use lib.Seq.{take_at}
 use lib.Dec.{T}
 use Rattle.facts.specs.declared.Fact.{Fact}
-use Rattle.facts.specs.declared.Answer.{Answer}
-use Rattle.facts.specs.declared.Answer.TheVariants.{Yes, Accepted}
+use Rattle.facts.specs.Results.{Answer, Yes, Accepted}
 use Rattle.facts.specs.Facts.{well_formed}
 use Rattle.facts.specs.Gaps.{filled_by}
 use Rattle.facts.specs.Answers.{code_of}

@@ -4,7 +4,7 @@
 ghost use Rattle.facts.specs.Facts.{fact};
 ghost use Rattle.confirms.specs.Confirms.{Confirms};
 
-use facts::{Answer, Fact};
+use facts::{Answer, Fact, Outcome};
 
 // What a question answers, and what the check says of the derivation that it printed.
 #[derive(Clone, Copy)]
@@ -18,17 +18,18 @@ pub struct Confirmed {
 pub fn confirm(table: &[u8], fact: Fact, limit: u32, output: &mut [u8]) -> Confirmed
     ensures { Confirms table.now fact limit output.old output.new result }
 {
-    let a = search::question(table, fact, limit, output);
-    let Answer::Yes(f, x) = a else {
-        return Confirmed {
-            answer: a,
-            verdict: a,
-        };
+    let answer = search::question(table, fact, limit, output);
+    let alone = Confirmed {
+        answer,
+        verdict: answer,
+    };
+    let Ok(outcome) = answer else {
+        return alone;
+    };
+    let Outcome::Yes(f, x) = outcome else {
+        return alone;
     };
     let used = search_limits::needed_for(f);
-    let v = checker::check(table, gaps::filled_by(fact, x), &output[..used]);
-    Confirmed {
-        answer: a,
-        verdict: v,
-    }
+    let verdict = checker::check(table, gaps::filled_by(fact, x), &output[..used]);
+    Confirmed { answer, verdict }
 }

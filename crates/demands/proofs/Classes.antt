@@ -9,7 +9,7 @@ use lib.Dec.{T}
 use mir.Facts.{and_yes, or_yes}
 use Rattle.facts.specs.declared.Fact.{Fact}
 use Rattle.facts.specs.declared.Refusal.TheVariants.{Term, Blank, Part, Class, Step}
-use Rattle.facts.specs.declared.Verdict.TheVariants.{Sound, Faulty}
+use Rattle.facts.specs.Results.{Sound, Faulty}
 use Rattle.facts.specs.Terms.{kind_of, is_name, is_literal, is_vocabulary}
 use Rattle.facts.specs.Facts.{named_subject, named_object, is_node, is_predicate, well_formed, has_no_term, has_blank, misplaced, text_as_class, fault_of}
 use Rattle.facts.specs.Gaps.{Askable, blank_refused, question_fault}

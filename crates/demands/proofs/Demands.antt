@@ -13,8 +13,7 @@ use borrow.Author.Tests.{le-leb}
 use Rattle.columns.specs.Lines.{over}
 use Rattle.facts.specs.declared.Fact.{Fact}
 use Rattle.facts.specs.declared.Refusal.{Refusal}
-use Rattle.facts.specs.declared.Answer.{Answer}
-use Rattle.facts.specs.declared.Answer.TheVariants.{No, Long, Refused}
+use Rattle.facts.specs.Results.{Answer, No, Long, Refused}
 use Rattle.facts.specs.declared.Code.{Code}
 use Rattle.facts.specs.Facts.{well_formed}
 use Rattle.facts.specs.Gaps.{Fills, AsksSame}

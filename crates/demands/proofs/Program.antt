@@ -1,5 +1,6 @@
 -- What the program prints: for each question what the call gives, and behind a yes a derivation that the check accepts.
 -- Assumes nothing.
+use Rattle.std.specs.Prelude.{Err, None}
 use mathlib.Core.Path.{◌≡◌, refl, sym, ap, ◌∙◌, subst}
 use mathlib.Core.Logic.{◌↔◌, ◌⊎◌, inl, inr}
 use mathlib.Core.Bool.{true}
@@ -11,8 +12,7 @@ use lib.Dec.{T}
 use Rattle.columns.specs.Lines.{line, Below, width, numbers_at, laid_out, flat}
 use Rattle.columns.proofs.Lines.{line_read, line-written, numbers-length}
 use Rattle.facts.specs.declared.Refusal.TheVariants.{Form}
-use Rattle.facts.specs.declared.Answer.{Answer}
-use Rattle.facts.specs.declared.Answer.TheVariants.{Done, Yes, No, Long, Accepted, Refused}
+use Rattle.facts.specs.Results.{Answer, Done, Yes, No, Long, Accepted, Refused}
 use Rattle.facts.specs.declared.Code.{Code}
 use Rattle.facts.specs.Answers.{code_of, number_of}
 use Rattle.facts.specs.declared.Fact.{Fact}
@@ -25,7 +25,6 @@ use Rattle.question.proofs.Answered.{yes-fewest, yes-input, fewest-filled, fewes
 use Rattle.packing.specs.Packed.{packed}
 use Rattle.entail.proofs.Unpacked.{question-unpacked, check-unpacked}
 use Rattle.batch.specs.declared.Query.{Query}
-use Rattle.batch.specs.declared.Input.TheVariants.{Torn}
 use Rattle.batch.specs.Input.{layout_of}
 use Rattle.batch.specs.Output.{code_line, behind_code, reply_to, output_by, output_of}
 use Rattle.batch.specs.Whole.{Laid}
@@ -39,7 +38,7 @@ pub torn : (b : List ℕ) → ((table : List ℕ) (qs : List Query) → Laid b t
 unfolding code_line
 torn = torn-output
 
-pub torn-piece : (b : List ℕ) → layout_of b ≡ Torn → output_of b ≡ code_line (Refused Form 0)
+pub torn-piece : (b : List ℕ) → layout_of b ≡ None → output_of b ≡ code_line (Refused Form 0)
 unfolding output_of output_by
 torn-piece b e = rw e
 
@@ -59,7 +58,7 @@ plain (Yes f y) x h = absurd (h refl)
 plain No x h = refl
 plain (Long f) x h = refl
 plain (Accepted n) x h = refl
-plain (Refused r place) x h = refl
+plain (Err stop) x h = refl
 
 module _ (table : List ℕ) (q : Query) where
   -- memory for the longest derivation
@@ -113,7 +112,7 @@ module _ (table : List ℕ) (q : Query) where
   two No e = inr (other No e (λ z. omega arith))
   two (Long f) e = inr (other (Long f) e (λ z. omega arith))
   two (Accepted n) e = inr (other (Accepted n) e (λ z. omega arith))
-  two (Refused r place) e = inr (other (Refused r place) e (λ z. omega (arith, number-within r)))
+  two (Err stop) e = inr (other (Refused stop.refusal stop.place) e (λ z. omega (arith, number-within stop.refusal)))
 
   reply : Reply table q (reply_to table q)
   unfolding reply_to code_line

@@ -1,5 +1,6 @@
 -- Each call refuses exactly what the papers refuse, with its number and place.
 -- Assumes nothing.
+use Rattle.std.specs.Prelude.{Err}
 use mathlib.Core.Path.{◌≡◌, refl, sym, ◌∙◌}
 use mathlib.Core.Logic.{◌↔◌, ◌⊎◌, inl, inr, ⊎_elim}
 use mathlib.Core.Bool.{Bool, true, false, cond, ◌&&◌, ◌||◌, true≢false}
@@ -15,21 +16,18 @@ use mir.Facts.{and_yes, or_yes, eqb_yes}
 use borrow.Author.Tests.{le-leb, lt-leb, leb-true, leb-false, lt-ltb, ltb-true}
 use Rattle.columns.specs.Lines.{laid_out}
 use Rattle.columns.proofs.Fields.{both}
+use Rattle.facts.proofs.Results.{same_parts}
 use Rattle.facts.specs.declared.Fact.{Fact}
 use Rattle.facts.specs.declared.Refusal.{Refusal}
 use Rattle.facts.specs.declared.Refusal.TheVariants.{Size, Term, Blank, Part, Class, Allowance, Short, Form, Step, End}
-use Rattle.facts.specs.declared.Verdict.{Verdict}
-use Rattle.facts.specs.declared.Verdict.TheVariants.{Sound, Faulty}
-use Rattle.facts.specs.declared.Answer.{Answer}
-use Rattle.facts.specs.declared.Answer.TheVariants.{Done, Yes, Long, Accepted, Refused}
+use Rattle.facts.specs.Results.{Verdict, Sound, Faulty, Answer, Done, Yes, Long, Accepted, Refused}
 use Rattle.facts.specs.Terms.{kind_of, is_literal, sc, sp, dom, range, type}
 use Rattle.facts.specs.Facts.{named_subject, named_object, well_formed, has_no_term, has_blank, misplaced, text_as_class, fault_of, or_else}
 use Rattle.facts.proofs.Terms.{by_cases, T_of, of_T}
 use Rattle.facts.specs.Gaps.{is_gap, blank_refused, question_fault}
 use Rattle.facts.proofs.Facts.{fault-none}
 use Rattle.facts.proofs.Gaps.{question-none}
-use Rattle.table.specs.declared.Scan.{Scan}
-use Rattle.table.specs.declared.Scan.TheVariants.{Passes, Stops}
+use Rattle.table.specs.Results.{Scan, Passes, Stops}
 use Rattle.table.specs.Scans.{earns, tried, first_earned, scan}
 use Rattle.table.specs.Tables.{Table, accepted, refused, sized, row_of, table_bytes, line_fact, row_fact, line_verdict, row_verdict, table_of, table_of_row, settled, filled}
 use Rattle.table.proofs.Rows.{row-length, bytes-length, sized-fits, sized-says}
@@ -126,7 +124,7 @@ answers takes (refused r place) m = Refused r place
 
 pub answers-lack : (takes : List Fact → ℕ) (t : Table) (m : ℕ) (r : Refusal) (place : ℕ) → answers takes t m ≡ Refused r place ↔ Lacks takes t m r place
 answers-lack takes (refused q p) m r place = (
-  λ e. let i : q ≡ r = cc in let j : p ≡ place = cc in inl (rw (i, j)),
+  λ e. let i : q ≡ r = (same_parts e).0 in let j : p ≡ place = (same_parts e).1 in inl (rw (i, j)),
   ⊎_elim (λ (z : refused q p ≡ refused r place). let i : q ≡ r = cc in let j : p ≡ place = cc in rw (i, j))
       (λ (h : (facts : List Fact) × (refused q p ≡ accepted facts) × (m < takes facts) × (r ≡ Short) × (place ≡ 0)). let z : ◌≡◌ {A = ℕ} 0 1 = cc h.1 in absurd (omega arith)),
 )
@@ -134,7 +132,7 @@ answers-lack takes (accepted facts) m r place = (
   λ e. by_cases (leb (takes facts) m)
       (λ y. let u : Done (length facts) ≡ Refused r place = rw y at e in let k : ◌≡◌ {A = ℕ} 0 1 = cc in absurd (omega arith))
       (λ y. let u : Refused Short 0 ≡ Refused r place = rw y at e in
-      let i : r ≡ Short = cc in let j : place ≡ 0 = cc in inr (facts, refl, leb-false _ _ y, i, j)),
+      let i : r ≡ Short = sym (same_parts u).0 in let j : place ≡ 0 = sym (same_parts u).1 in inr (facts, refl, leb-false _ _ y, i, j)),
   ⊎_elim (λ (z : accepted facts ≡ refused r place). let k : ◌≡◌ {A = ℕ} 0 1 = cc in absurd (omega arith))
       (λ (h : (fs : List Fact) × (accepted facts ≡ accepted fs) × (m < takes fs) × (r ≡ Short) × (place ≡ 0)).
       let e : h.0 ≡ facts = cc h.1 in rw (lt-leb (takes facts) m (rw e at h.2), h.3, h.4)),
@@ -333,13 +331,13 @@ unless-says : (b : List ℕ) (facts : List Fact) (t : Fact) (limit m : ℕ) (v :
 unfolding unless answer_of asked
 unless-says b facts t limit m Sound r place s z e = absurd (no-refusal limit (fewest facts t) (filling_for facts t) r place e)
 unless-says b facts t limit m (Faulty q) r place s z e =
-    let i : q ≡ r = cc in
-    let j : 0 ≡ place = cc in
+    let i : q ≡ r = (same_parts e).0 in
+    let j : 0 ≡ place = (same_parts e).1 in
     rw (← j) (asked-says b facts t limit m (question_fault t) r s refl (rw i at z))
 
 question-says : (b : List ℕ) (t : Fact) (limit m : ℕ) (u : Table) (r : Refusal) (place : ℕ) → table_of b ≡ u → answer_from u t limit m ≡ Refused r place → QuestionRefused (question b t limit) m r place
 unfolding answer_from
-question-says b t limit m (refused q p) r place z e = let i : q ≡ r = cc in let j : p ≡ place = cc in rw (← i, ← j) (refusals.by-table ((table-refused b q p).0 z))
+question-says b t limit m (refused q p) r place z e = let i : q ≡ r = (same_parts e).0 in let j : p ≡ place = (same_parts e).1 in rw (← i, ← j) (refusals.by-table ((table-refused b q p).0 z))
 question-says b t limit m (accepted facts) r place z e = unless-says b facts t limit m (asked t limit m) r place ((sound-table b facts).0 z) refl e
 
 question-is : {q : Question} {m : ℕ} {r : Refusal} {place : ℕ} → QuestionRefused q m r place → question_answer q.table q.fact q.limit m ≡ Refused r place
@@ -391,18 +389,18 @@ module _ (b : List ℕ) (facts : List Fact) (t : Fact) (x : List ℕ) (n : ℕ) 
       by_cases (same (line_at x (n - 1)).fact t)
       (λ y. let u : Accepted _ ≡ Refused r place = rw y at e in let k : ◌≡◌ {A = ℕ} 0 1 = cc in absurd (omega arith))
       (λ y. let u : Refused End n ≡ Refused r place = rw y at e in
-      let i : End ≡ r = cc in
-      let j : n ≡ place = cc in
+      let i : End ≡ r = (same_parts u).0 in
+      let j : n ≡ place = (same_parts u).1 in
       rw (← i, ← j) (refusals.by_end s w l laid steps (λ z. let q : same t t ≡ false = rw z at y in absurd (rw q at (same_self t)))))
 
   steps-say : (c : Scan) (r : Refusal) (place : ℕ) → Laid → scan (step_verdict facts x) 0 n ≡ c → after c (end_answer t x n) ≡ Refused r place → CheckRefused b t x r place
   unfolding after step_verdict
   steps-say (Passes m) r place laid z e = end-says r place laid (λ j h. stepped j (rw zero-add at (scan-sound (step_verdict facts x) n 0 m z j h))) e
-  steps-say (Stops q p) r place laid z e =
-      let i : q ≡ r = cc in
-      let j : p ≡ place = cc in
-      let k = (scan-stopped (step_verdict facts x) n q p).0 z in
-      let v = by-test (justified facts (lines_of x k.line) (line_at x k.line)) Step q k.refuses in
+  steps-say (Err stop) r place laid z e =
+      let i : stop.refusal ≡ r = (same_parts e).0 in
+      let j : stop.place ≡ place = (same_parts e).1 in
+      let k = (scan-stopped (step_verdict facts x) n stop.refusal stop.place).0 z in
+      let v = by-test (justified facts (lines_of x k.line) (line_at x k.line)) Step stop.refusal k.refuses in
       rw (← i, ← j, ← v.1, k.counted)
       (refusals.by-step s w l k.within laid (λ j h. stepped j (k.sound j h)) (λ y. rw v.0 at (justified-is y)))
 
@@ -410,11 +408,11 @@ module _ (b : List ℕ) (facts : List Fact) (t : Fact) (x : List ℕ) (n : ℕ) 
   unfolding after form_verdict
   forms-say (Passes m) r place z e =
       steps-say (scan (step_verdict facts x) 0 n) r place (λ j h. passed-test _ Form (rw zero-add at (scan-sound (form_verdict x) n 0 m z j h))) refl e
-  forms-say (Stops q p) r place z e =
-      let i : q ≡ r = cc in
-      let j : p ≡ place = cc in
-      let k = (scan-stopped (form_verdict x) n q p).0 z in
-      let v = by-test (laid_out 6 x (31 * k.line)) Form q k.refuses in
+  forms-say (Err stop) r place z e =
+      let i : stop.refusal ≡ r = (same_parts e).0 in
+      let j : stop.place ≡ place = (same_parts e).1 in
+      let k = (scan-stopped (form_verdict x) n stop.refusal stop.place).0 z in
+      let v = by-test (laid_out 6 x (31 * k.line)) Form stop.refusal k.refuses in
       rw (← i, ← j, ← v.1, k.counted) (refusals.by_form s w l k.within (λ j h. passed-test _ Form (k.sound j h)) v.0)
 
 derivation-says : (b : List ℕ) (facts : List Fact) (t : Fact) (x : List ℕ) (r : Refusal) (place : ℕ) → SoundTable b facts → T (well_formed t)
@@ -424,8 +422,8 @@ derivation-says b facts t x r place s w e =
     by_cases (ltb 0 (length x) && sized 31 63457 (length x))
     (λ y. forms-say b facts t x (length x / 31) s w (size-lines x y) (scan (form_verdict x) 0 (length x / 31)) r place refl (rw y at e))
     (λ y. let u : Refused Form 0 ≡ Refused r place = rw y at e in
-    let i : Form ≡ r = cc in
-    let j : 0 ≡ place = cc in
+    let i : Form ≡ r = (same_parts u).0 in
+    let j : 0 ≡ place = (same_parts u).1 in
     rw (← i, ← j) (refusals.by_size s w (λ n l. let z : true ≡ false = sym (lines-size x n l).0 ∙ y in let k : ◌≡◌ {A = ℕ} 0 1 = cc in omega arith)))
 
 fact-says : (b : List ℕ) (facts : List Fact) (t : Fact) (x : List ℕ) (v : Verdict) (r : Refusal) (place : ℕ) → SoundTable b facts → fault_of t ≡ v
@@ -433,11 +431,11 @@ fact-says : (b : List ℕ) (facts : List Fact) (t : Fact) (x : List ℕ) (v : Ve
     → CheckRefused b t x r place
 unfolding fact_answer
 fact-says b facts t x Sound r place s z e = derivation-says b facts t x r place s ((fault-none t).0 z) e
-fact-says b facts t x (Faulty q) r place s z e = let i : q ≡ r = cc in let j : 0 ≡ place = cc in rw (← i, ← j) (refusals.by-fact s ((fact-refused t q).0 z))
+fact-says b facts t x (Faulty q) r place s z e = let i : q ≡ r = (same_parts e).0 in let j : 0 ≡ place = (same_parts e).1 in rw (← i, ← j) (refusals.by-fact s ((fact-refused t q).0 z))
 
 check-says : (b : List ℕ) (t : Fact) (x : List ℕ) (u : Table) (r : Refusal) (place : ℕ) → table_of b ≡ u → table_answer u t x ≡ Refused r place → CheckRefused b t x r place
 unfolding table_answer
-check-says b t x (refused q p) r place z e = let i : q ≡ r = cc in let j : p ≡ place = cc in rw (← i, ← j) (refusals.by-table ((table-refused b q p).0 z))
+check-says b t x (refused q p) r place z e = let i : q ≡ r = (same_parts e).0 in let j : p ≡ place = (same_parts e).1 in rw (← i, ← j) (refusals.by-table ((table-refused b q p).0 z))
 check-says b t x (accepted facts) r place z e = fact-says b facts t x (fault_of t) r place ((sound-table b facts).0 z) refl e
 
 -- over a sound table, for a well-formed fact, the check is that of the lines

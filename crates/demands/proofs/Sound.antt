@@ -1,5 +1,6 @@
 -- Input is sound exactly where the papers lay down no refusal for it; and which answers name no term.
 -- Assumes nothing.
+use Rattle.std.specs.Prelude.{Err}
 use mathlib.Core.Path.{◌≡◌, refl, sym, ap, ◌∙◌}
 use mathlib.Core.Logic.{◌↔◌, ◌⊎◌, inl, inr, ⊎_elim}
 use mathlib.Core.Bool.{◌&&◌}
@@ -10,18 +11,14 @@ use lib.ListN.{length}
 use lib.Dec.{T, leb, ltb}
 use Rattle.facts.specs.declared.Fact.{Fact}
 use Rattle.facts.specs.declared.Refusal.{Refusal}
-use Rattle.facts.specs.declared.Verdict.{Verdict}
-use Rattle.facts.specs.declared.Verdict.TheVariants.{Sound, Faulty}
-use Rattle.facts.specs.declared.Answer.{Answer}
-use Rattle.facts.specs.declared.Answer.TheVariants.{Accepted, Refused}
+use Rattle.facts.specs.Results.{Verdict, Sound, Faulty, Answer, Accepted, Refused}
 use Rattle.facts.specs.Facts.{well_formed, fault_of}
 use Rattle.facts.specs.Answers.{code_of}
 use Rattle.facts.proofs.Terms.{by_cases}
 use Rattle.facts.specs.Gaps.{Askable, question_fault}
 use Rattle.facts.proofs.Facts.{fault-none}
 use Rattle.facts.proofs.Gaps.{question-none}
-use Rattle.table.specs.declared.Scan.{Scan}
-use Rattle.table.specs.declared.Scan.TheVariants.{Passes, Stops}
+use Rattle.table.specs.Results.{Scan, Passes, Stops}
 use Rattle.table.specs.Scans.{scan}
 use Rattle.table.specs.Tables.{Table, accepted, refused, sized, table_of, table_of_row, settled}
 use Rattle.records.specs.Records.{settled_records}
@@ -117,7 +114,7 @@ Verdicts a = ((n : ℕ) × (a ≡ Accepted n)) ⊎ ((r : Refusal) × (place : �
 after-verdict : (c : Scan) (a : Answer) → Verdicts a → Verdicts (after c a)
 unfolding after
 after-verdict (Passes n) a v = v
-after-verdict (Stops r place) a v = inr (r, place, refl)
+after-verdict (Err stop) a v = inr (stop.refusal, stop.place, refl)
 
 end-verdict : (t : Fact) (x : List ℕ) (n : ℕ) → Verdicts (end_answer t x n)
 unfolding end_answer

@@ -5,13 +5,12 @@
 -- question without a gap this is what it was (specs/Gapless). Of the program they speak by `output_of`, all
 -- that it is to print; no contract can say what reaches standard output.
 -- Assumes nothing.
-use Rattle.std.specs.Prelude.{◌≡◌, ◌↔◌, ◌⊎◌, true, List, [], ◌∷◌, ◌++◌, ℕ, ◌+◌, ◌*◌, ◌≤◌, ◌<◌, length, take, drop, T}
+use Rattle.std.specs.Prelude.{◌≡◌, ◌↔◌, ◌⊎◌, true, None, Some, List, [], ◌∷◌, ◌++◌, ℕ, ◌+◌, ◌*◌, ◌≤◌, ◌<◌, length, take, drop, T}
 use Rattle.columns.specs.Lines.{line, Below, width, numbers_at, laid_out, over, flat, items_from}
 use Rattle.facts.specs.declared.Fact.{Fact}
 use Rattle.facts.specs.declared.Refusal.{Refusal}
 use Rattle.facts.specs.declared.Refusal.TheVariants.{Form}
-use Rattle.facts.specs.declared.Answer.{Answer}
-use Rattle.facts.specs.declared.Answer.TheVariants.{Refused}
+use Rattle.facts.specs.Results.{Answer, Refused}
 use Rattle.facts.specs.declared.Code.{Code}
 use Rattle.facts.specs.Facts.{well_formed}
 use Rattle.facts.specs.Gaps.{Fills, Askable, AsksSame, filled_by}
@@ -28,8 +27,7 @@ use Rattle.records.specs.Records.{over_records, TransfersRecords}
 use Rattle.packing.specs.Packed.{unpacked}
 use Rattle.entail.specs.Calls.{QuestionCall, CheckCall, ReadCall, WriteCall}
 use Rattle.batch.specs.declared.Query.{Query}
-use Rattle.batch.specs.declared.Input.TheVariants.{Torn, Parts}
-use Rattle.batch.specs.Input.{layout_of}
+use Rattle.batch.specs.Input.{parts, layout_of}
 use Rattle.batch.specs.Output.{code_line, longest, reply_in, output_of}
 use Rattle.batch.specs.Whole.{Laid}
 use Rattle.demands.specs.Refusals.{SoundTable, SoundQuestion, SoundCheck, TableRefused, RowRefused, SoundRow, FactRefused, AskedRefused, ReadRefused, WriteRefused, QuestionRefused, CheckRefused}
@@ -204,5 +202,5 @@ pub record Demand-3 : Type 1 where
   -- what the program is to print for an input that is laid out: the reply to each question, in order, and nothing else
   pub program : (b table : List ℕ) (qs : List Query) → Laid b table qs → Replies table qs (output_of b)
   -- it is put together of what the contracts of `input::layout`, `replies::reply` and `replies::refusal` speak of
-  pub pieces : (b : List ℕ) (size n m : ℕ) → layout_of b ≡ Parts size n → longest ≤ m → output_of b ≡ flat (λ k. reply_in b size k m) (items_from (λ k. k) 0 n)
-  pub torn-piece : (b : List ℕ) → layout_of b ≡ Torn → output_of b ≡ code_line (Refused Form 0)
+  pub pieces : (b : List ℕ) (size n m : ℕ) → layout_of b ≡ Some (parts size n) → longest ≤ m → output_of b ≡ flat (λ k. reply_in b size k m) (items_from (λ k. k) 0 n)
+  pub torn-piece : (b : List ℕ) → layout_of b ≡ None → output_of b ≡ code_line (Refused Form 0)

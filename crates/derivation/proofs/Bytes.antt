@@ -1,15 +1,17 @@
--- Laws of derivations as bytes: their length, and that what is laid out as lines is the lines that it says, also as they are read.
+-- Laws of derivations as bytes: their length, and that what is laid out as lines is the lines that it says, and is read as these.
 -- Assumes nothing.
 use mathlib.Core.Path.{◌≡◌, refl, sym, ◌∙◌}
-use mathlib.Core.Bool.{true}
+use mathlib.Core.Bool.{true, false}
 use mathlib.Core.List.{List}
 use Prim.Native.Nat.{ℕ, ◌*◌, ◌<◌}
 use native.Mathlib.Nat.{zero-add, add_assoc}
+use Rattle.std.specs.Prelude.{Some, None}
 use lib.ListN.{length, get_or}
 use Rattle.columns.specs.Lines.{laid_out, numbers_at, Below, items_from}
 use Rattle.columns.proofs.Lines.{line-length}
 use Rattle.columns.proofs.Lists.{flat-length, lines-written, line-placed}
-use Rattle.columns.proofs.Torn.{fields_at, read-line}
+use Rattle.columns.proofs.Columns.{cond_none}
+use Rattle.std.proofs.lemmas.Option.{cond_some}
 use Rattle.facts.proofs.Facts.{fact-eq}
 use Rattle.rules.specs.declared.Line.{Line}
 use Rattle.derivation.specs.Bytes.{line_numbers, line_bytes, derivation_bytes, line_at}
@@ -40,7 +42,19 @@ line-read-back d i z h below =
     let p = line-placed 6 line_numbers (λ l. refl) d i z h below in
     (p.0, line_eq (line_at (derivation_bytes d) i) (get_or d i z) (sym (numbers-line (derivation_bytes d) i) ∙ p.1))
 
--- a line that is laid out is read as the line that its fields say
-pub read-laid : (b : List ℕ) (i : ℕ) → laid_out 6 b (31 * i) ≡ true → read_at b i ≡ line_at b i
-unfolding read_at line_at fields_at numbers_at
-read-laid b i e = line_eq (read_at b i) (line_at b i) (simp add_assoc at (read-line 6 b (31 * i) e))
+-- a line is read where it is laid out, as the line that its fields say
+pub read-laid : (b : List ℕ) (i : ℕ) → laid_out 6 b (31 * i) ≡ true → read_at b i ≡ Some (line_at b i)
+unfolding read_at
+read-laid b i e = rw e
+
+pub read-torn : (b : List ℕ) (i : ℕ) → laid_out 6 b (31 * i) ≡ false → read_at b i ≡ None
+unfolding read_at
+read-torn b i e = rw e
+
+pub some-read : (b : List ℕ) (i : ℕ) (l : Line) → read_at b i ≡ Some l → (laid_out 6 b (31 * i) ≡ true) × (line_at b i ≡ l)
+unfolding read_at
+some-read b i l e = cond_some _ _ _ e
+
+pub none-read : (b : List ℕ) (i : ℕ) → read_at b i ≡ None → laid_out 6 b (31 * i) ≡ false
+unfolding read_at
+none-read b i e = cond_none _ _ e

@@ -1,13 +1,10 @@
--- A derivation line as it is read, field by field, before its layout is known.
+-- A derivation line as it is read: none where its bytes are not laid out as one.
 -- Assumes nothing.
-use Rattle.std.specs.Prelude.{List, ℕ, ◌+◌, ◌*◌}
-use Rattle.columns.specs.Fields.{field_at}
-use Rattle.facts.specs.Facts.{fact}
+use Rattle.std.specs.Prelude.{cond, List, ℕ, ◌*◌, Option, Some, None}
+use Rattle.columns.specs.Lines.{laid_out}
 use Rattle.rules.specs.declared.Line.{Line}
-use Rattle.rules.specs.Derivations.{derivation_line}
+use Rattle.derivation.specs.Bytes.{line_at}
 
--- line i of the bytes, counted from 0, with 100,000 where no field stands
-unfoldable pub read_at : List ℕ → ℕ → Line
-read_at b i =
-    derivation_line (field_at b (31 * i)) (field_at b (31 * i + 5)) (field_at b (31 * i + 10))
-    (fact (field_at b (31 * i + 15)) (field_at b (31 * i + 20)) (field_at b (31 * i + 25)))
+-- line i of the bytes, counted from 0, where it is laid out
+unfoldable pub read_at : List ℕ → ℕ → Option Line
+read_at b i = cond (laid_out 6 b (31 * i)) (Some (line_at b i)) None

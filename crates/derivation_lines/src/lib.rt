@@ -1,13 +1,14 @@
 // One derivation line, read and written (document 01, "Derivation lines and their check").
 #![tactic(auto)]
 
-ghost use Rattle.std.specs.Prelude.{◌≡◌, not, ◌+◌, ◌*◌, ◌≤◌, length};
-ghost use Rattle.columns.specs.Lines.{Below, laid_out, over};
+ghost use Rattle.std.specs.Prelude.{◌≡◌, ◌+◌, ◌*◌, ◌≤◌, length};
+ghost use Rattle.columns.specs.Lines.{Below, over};
 ghost use Rattle.derivation.specs.Bytes.{line_numbers, line_bytes, line_at};
 ghost use Rattle.derivation.specs.Read.{read_at};
 
-use columns::{LINE_END, NO_FIELD};
+use columns::LINE_END;
 use facts::Fact;
+use field_reader::field_at;
 use rules::Line;
 
 // The bytes of a line.
@@ -27,57 +28,36 @@ pub fn put_line(l: Line, out: &mut [u8])
 }
 
 // The fact on a line, by what its fields say.
+#[tactic(auto, unfolding(derivation::specs::Bytes::line_at))]
 pub fn fact_at(bytes: &[u8], i: usize) -> Fact
     requires { 31 * i + 31 ≤ length bytes.now }
     ensures { result ≡ (line_at bytes.now i).fact }
 {
-    let at = LINE_BYTES * i;
-    let subject = digit_reader::number_at(bytes, at + 15);
-    let predicate = digit_reader::number_at(bytes, at + 20);
-    let object = digit_reader::number_at(bytes, at + 25);
-    Fact {
-        subject: subject,
-        predicate: predicate,
-        object: object,
-    }
+    fact_fields::fact_at(bytes, LINE_BYTES * i + 15)
 }
 
-// The line at a place, counted from 0, with NO_FIELD where no field stands.
-pub fn read_line(bytes: &[u8], i: usize) -> Line
+// The line at a place, counted from 0, where its bytes are laid out as one: six fields, and byte 10 behind them.
+pub fn read_line(bytes: &[u8], i: usize) -> Option<Line>
     requires { 31 * i + 31 ≤ length bytes.now }
     ensures { result ≡ read_at bytes.now i }
 {
     let at = LINE_BYTES * i;
-    let rule = field_reader::field_at(bytes, at);
-    let first = field_reader::field_at(bytes, at + 5);
-    let second = field_reader::field_at(bytes, at + 10);
-    let subject = field_reader::field_at(bytes, at + 15);
-    let predicate = field_reader::field_at(bytes, at + 20);
-    let object = field_reader::field_at(bytes, at + 25);
+    let rule = field_at(bytes, at)?;
+    let first = field_at(bytes, at + 5)?;
+    let second = field_at(bytes, at + 10)?;
+    let subject = field_at(bytes, at + 15)?;
+    let predicate = field_at(bytes, at + 20)?;
+    let object = field_at(bytes, at + 25)?;
     let fact = Fact {
-        subject: subject,
-        predicate: predicate,
-        object: object,
+        subject,
+        predicate,
+        object,
     };
-    Line {
-        rule: rule,
-        first: first,
-        second: second,
-        fact: fact,
-    }
-}
-
-// Of the line read at a place, some field is none, or byte 10 does not end it.
-pub fn is_torn(bytes: &[u8], i: usize, l: Line) -> bool
-    requires { (31 * i + 31 ≤ length bytes.now) × (l ≡ read_at bytes.now i) }
-    ensures { result ≡ not (laid_out 6 bytes.now (31 * i)) }
-{
-    let f = l.fact;
-    (l.rule == NO_FIELD)
-        | (l.first == NO_FIELD)
-        | (l.second == NO_FIELD)
-        | (f.subject == NO_FIELD)
-        | (f.predicate == NO_FIELD)
-        | (f.object == NO_FIELD)
-        | (bytes[LINE_BYTES * i + 30] != LINE_END)
+    let line = Line {
+        rule,
+        first,
+        second,
+        fact,
+    };
+    (bytes[at + 30] == LINE_END).then_some(line)
 }

@@ -1,51 +1,33 @@
 // Digits of a field, read one by one, and the number that five columns say (document 01, "Table layout").
 #![tactic(auto)]
 
-ghost use Rattle.std.specs.Prelude.{◌≡◌, ◌+◌, ◌*◌, ◌≤◌, ◌<◌, length};
-ghost use Rattle.columns.specs.Columns.{with_digit, first_digit, digit_more};
+ghost use Rattle.std.specs.Prelude.{◌≡◌, ◌+◌, ◌*◌, ◌≤◌, ◌<◌, length, IfSome};
+ghost use Rattle.columns.specs.Columns.{with_digit, first_digit};
 ghost use Rattle.columns.specs.Fields.{joined, number_at};
 
-use columns::{NO_FIELD, ZERO};
-
-// The digit 9.
-const NINE: u8 = 57;
-
-// The number with one digit more, or NO_FIELD where the byte is no digit. The bound keeps the sum within 32 bits.
-pub fn with_digit(n: u32, b: u8) -> u32
+// The number with one digit more, if the byte is a digit. The bound keeps the sum within 32 bits, and serves the digits behind it.
+#[tactic(auto, using(columns::proofs::Columns::digit_cases))]
+pub fn with_digit(n: u32, b: u8) -> Option<u32>
     requires { n < 400000000 }
-    ensures { result ≡ with_digit n b }
+    ensures value { result ≡ with_digit n b }
+    ensures bound { IfSome result (λ m. m < n * 10 + 10) }
 {
-    if b < ZERO {
-        return NO_FIELD;
+    match b {
+        b'0'..=b'9' => Some(n * 10 + u32::from(b) - 48),
+        _ => None,
     }
-    if NINE < b {
-        return NO_FIELD;
-    }
-    n * 10 + b as u32 - 48
 }
 
-// The first digit of a number of several digits, which is not 0, or NO_FIELD where the byte is no such digit.
-pub fn first_digit(b: u8) -> u32
-    ensures { (result ≡ first_digit b) × (result ≤ 100000) }
+// The first digit of a number of several digits, which is not 0.
+#[tactic(auto, using(columns::proofs::Columns::first_cases))]
+pub fn first_digit(b: u8) -> Option<u32>
+    ensures value { result ≡ first_digit b }
+    ensures bound { IfSome result (λ m. m < 10) }
 {
-    if b <= ZERO {
-        return NO_FIELD;
+    match b {
+        b'1'..=b'9' => Some(u32::from(b) - 48),
+        _ => None,
     }
-    if NINE < b {
-        return NO_FIELD;
-    }
-    b as u32 - 48
-}
-
-// What was read with one digit more, where NO_FIELD stays NO_FIELD. The last bound serves the digits behind it.
-pub fn digit_more(n: u32, b: u8) -> u32
-    requires { n < 400000000 }
-    ensures { (result ≡ digit_more n b) × (result ≤ n * 10 + 100000) }
-{
-    if n == NO_FIELD {
-        return NO_FIELD;
-    }
-    with_digit(n, b)
 }
 
 // The number with one column more.
@@ -53,7 +35,7 @@ fn join(n: u32, b: u8) -> u32
     requires { n < 100000 }
     ensures { result ≡ joined n b }
 {
-    n * 10 + (b % 16) as u32
+    n * 10 + u32::from(b % 16)
 }
 
 // What the five bytes from a place on say as digits.
@@ -61,8 +43,9 @@ pub fn number_at(s: &[u8], at: usize) -> u32
     requires { at + 5 ≤ length s.now }
     ensures { result ≡ number_at s.now at }
 {
-    join(
-        join(join(join(join(0, s[at]), s[at + 1]), s[at + 2]), s[at + 3]),
-        s[at + 4],
-    )
+    let mut n = 0;
+    for b in &s[at..at + 5] {
+        n = join(n, *b);
+    }
+    n
 }

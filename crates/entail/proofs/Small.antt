@@ -1,6 +1,7 @@
 -- Every answer fits the bits of its number: places are line numbers, counts are numbers of facts or lines, and what a yes names is a
 -- term.
 -- Assumes nothing.
+use Rattle.std.specs.Prelude.{Err}
 use mathlib.Core.Path.{◌≡◌, refl}
 use mathlib.Core.Bool.{Bool, ◌&&◌}
 use mathlib.Core.Option.{Option, none, some}
@@ -14,14 +15,11 @@ use Rattle.columns.proofs.Lists.{items-length}
 use Rattle.facts.specs.declared.Fact.{Fact}
 use Rattle.facts.specs.declared.Refusal.{Refusal}
 use Rattle.facts.specs.declared.Refusal.TheVariants.{Short, Form, End}
-use Rattle.facts.specs.declared.Verdict.{Verdict}
-use Rattle.facts.specs.declared.Verdict.TheVariants.{Sound, Faulty}
-use Rattle.facts.specs.declared.Answer.{Answer}
+use Rattle.facts.specs.Results.{Verdict, Sound, Faulty, Answer}
 use Rattle.facts.specs.Facts.{fault_of}
 use Rattle.facts.specs.Answers.{code_of}
 use Rattle.facts.proofs.Terms.{by_cases}
-use Rattle.table.specs.declared.Scan.{Scan}
-use Rattle.table.specs.declared.Scan.TheVariants.{Passes, Stops}
+use Rattle.table.specs.Results.{Scan, Passes, Stops}
 use Rattle.table.specs.Scans.{scan}
 use Rattle.table.specs.Tables.{Table, accepted, refused, row_of, table_bytes, table_of, table_of_row, sized, settled}
 use Rattle.table.proofs.Rows.{sized-says, accepted-size, row-size}
@@ -80,7 +78,7 @@ after_small judge n a h s = go (scan judge 0 n) refl
   where
     go : (c : Scan) → scan judge 0 n ≡ c → Small (code_of (after c a))
     go (Passes m) e = s
-    go (Stops r place) e = let st = (scan-stopped judge n r place).0 e in refused-small r place (omega (arith, st.counted, st.within))
+    go (Err stop) e = let st = (scan-stopped judge n stop.refusal stop.place).0 e in refused-small stop.refusal stop.place (omega (arith, st.counted, st.within))
 
 end-small : (t : Fact) (x : List ℕ) (n : ℕ) → n ≤ 2047 → Small (code_of (end_answer t x n))
 unfolding end_answer

@@ -2,7 +2,6 @@
 // Point 3). An answer is one number, whose bits the crate `packing` lays out. The crate `entail_c` hands these functions out to C.
 #![tactic(auto)]
 
-ghost use Rattle.std.specs.Prelude.{◌≡◌};
 ghost use Rattle.facts.specs.Facts.{fact};
 ghost use Rattle.acceptance.specs.Check.{Judges};
 ghost use Rattle.question.specs.Question.{question, Means};
@@ -11,17 +10,6 @@ ghost use Rattle.entail.specs.Calls.{QuestionCall, CheckCall, ReadCall, WriteCal
 
 use facts::Fact;
 use packing::pack;
-
-// The fact of three terms.
-fn fact_of(subject: u32, predicate: u32, object: u32) -> Fact
-    ensures { result ≡ fact subject predicate object }
-{
-    Fact {
-        subject: subject,
-        predicate: predicate,
-        object: object,
-    }
-}
 
 // Puts a question, which may have a gap: limit is document 01's allowance, output its paper.
 pub fn factbox_question(
@@ -35,7 +23,12 @@ pub fn factbox_question(
     ensures call { QuestionCall (question table.now (fact subject predicate object) limit) output.old output.new result }
     ensures meaning { Means (question table.now (fact subject predicate object) limit) output.old output.new (unpacked result) }
 {
-    pack(search::question(table, fact_of(subject, predicate, object), limit, output))
+    let fact = Fact {
+        subject,
+        predicate,
+        object,
+    };
+    pack(search::question(table, fact, limit, output))
 }
 
 // Judges a derivation of the fact from the table.
@@ -49,7 +42,12 @@ pub fn factbox_check(
     ensures call { CheckCall table.now (fact subject predicate object) derivation.now result }
     ensures meaning { Judges table.now (fact subject predicate object) derivation.now (unpacked result) }
 {
-    pack(checker::check(table, fact_of(subject, predicate, object), derivation))
+    let fact = Fact {
+        subject,
+        predicate,
+        object,
+    };
+    pack(checker::check(table, fact, derivation))
 }
 
 // Reads a table into a row of three numbers a fact.

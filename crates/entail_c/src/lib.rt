@@ -1,5 +1,5 @@
 // The calls as C links them (document 01, "Panel and program"; document 02, Point 3): each hands its arguments to the function of its name in
-// `entail`, with the same clauses. A slice is a pointer and then a length.
+// `entail`, with the same clauses: a static library is no part of other crates, and theorems speak of `entail`. A slice is a pointer and then a length.
 #![tactic(auto)]
 
 ghost use Rattle.facts.specs.Facts.{fact};

@@ -1,8 +1,8 @@
 // Facts gathered in a row of keys, in ascending order, each once (document 02, Point 3).
 #![tactic(auto)]
 
-ghost use Rattle.std.specs.Prelude.{◌≡◌, ◌*◌, ◌≤◌, length};
-ghost use Rattle.gathering.specs.Keys.{key_of, fact_of_key, Narrow, Rises, Cut, Room, AddsTo, SpreadsTo};
+ghost use Rattle.std.specs.Prelude.{◌≡◌, ◌*◌, ◌≤◌, ◌<◌, length, replicate};
+ghost use Rattle.gathering.specs.Keys.{key_of, fact_of_key, Narrow, Rises, Cut, AddsTo, SpreadsTo};
 
 use facts::Fact;
 use insertion::insert;
@@ -13,7 +13,8 @@ const PREDICATE: u64 = 65536;
 
 const SUBJECT: u64 = 4294967296;
 
-// The key of a fact.
+// The key of a fact, and the fact of a key. No From: neither type is of this crate, and not every fact has a key.
+#[tactic(auto, unfolding(gathering::specs::Keys::key_of))]
 fn key_of(f: Fact) -> u64
     requires { Narrow f }
     ensures { result ≡ key_of f }
@@ -21,7 +22,7 @@ fn key_of(f: Fact) -> u64
     (f.subject as u64 * PREDICATE + f.predicate as u64) * PREDICATE + f.object as u64
 }
 
-// The fact of a key.
+#[tactic(auto, unfolding(gathering::specs::Keys::fact_of_key))]
 fn fact_of_key(key: u64) -> Fact
     ensures { result ≡ fact_of_key key }
 {
@@ -32,48 +33,63 @@ fn fact_of_key(key: u64) -> Fact
     }
 }
 
-// The first of n rising keys that is not below this one.
-fn cut_key(keys: &[u64], n: usize, key: u64) -> usize
-    requires { Rises keys.now n }
-    ensures { Cut keys.now n key result }
-{
-    let mut lo = 0;
-    let mut hi = n;
-    while lo < hi {
-        let mid = lo + (hi - lo) / 2;
-        if keys[mid] < key {
-            lo = mid + 1;
-        } else {
-            hi = mid;
-        }
-    }
-    lo
+// The keys of facts, rising, in the front of a row: memory is of fixed size, so no Vec.
+#[derive(Drop)]
+pub struct Keys<const N: usize> {
+    pub row: [u64; N],
+    pub len: usize,
+    ghost room: { length row ≡ N },
+    ghost rising: { Rises row len },
 }
 
-// Puts the key of a fact among n rising keys, unless it is there. Their number then.
-pub fn add_key(keys: &mut [u64], n: usize, f: Fact) -> usize
-    requires { Room keys.old n × Narrow f }
-    ensures { AddsTo f keys.old keys.new n result }
-{
-    let key = key_of(f);
-    let k = cut_key(keys, n, key);
-    if k < n {
-        if keys[k] == key {
-            return n;
+impl<const N: usize> Keys<N> {
+    // No key.
+    pub fn new() -> Self
+        ensures { (result.row ≡ replicate N 0) × (result.len ≡ 0) }
+    {
+        Keys {
+            row: [0; N],
+            len: 0,
         }
     }
-    insert(keys, n, k, key);
-    n + 1
-}
 
-// Puts the numbers of n keys' facts into the front of a row.
-pub fn spread(keys: &[u64], n: usize, row: &mut [u32])
-    requires { (n ≤ length keys.now) × (3 * n ≤ length row.old) }
-    ensures { SpreadsTo keys.now n row.old row.new }
-{
-    let mut i = 0;
-    while i < n {
-        put_fact(fact_of_key(keys[i]), row, i);
-        i += 1;
+    // No key is left.
+    pub fn clear(&mut self)
+        ensures { (self.new.row ≡ self.old.row) × (self.new.len ≡ 0) }
+    {
+        self.len = 0;
+    }
+
+    // The first key that is not below this one.
+    fn cut(&self, key: u64) -> usize
+        ensures { Cut self.now.row self.now.len key result }
+    {
+        self.row[..self.len].partition_point(|&k| k < key)
+    }
+
+    // Puts the key of a fact among the others, unless it is there.
+    pub fn add(&mut self, f: Fact)
+        requires { (self.old.len < N) × Narrow f }
+        ensures { AddsTo f self.old.row self.new.row self.old.len self.new.len }
+    {
+        let key = key_of(f);
+        let k = self.cut(key);
+        if k < self.len {
+            if self.row[k] == key {
+                return;
+            }
+        }
+        insert(&mut self.row, self.len, k, key);
+        self.len += 1;
+    }
+
+    // Puts the numbers of the keys' facts into the front of a row.
+    pub fn spread(&self, row: &mut [u32])
+        requires { 3 * self.now.len ≤ length row.old }
+        ensures { SpreadsTo self.now.row self.now.len row.old row.new }
+    {
+        for i in 0..self.len {
+            put_fact(fact_of_key(self.row[i]), row, i);
+        }
     }
 }

@@ -2,57 +2,40 @@
 // standard output has their outputs, one behind the other. tools/cases/factbox_cases.py writes both.
 #![tactic(auto)]
 
-ghost use Rattle.std.specs.Prelude.{◌≡◌, length};
+ghost use Rattle.std.specs.Prelude.{◌≤◌, IfOk, IfSome};
 
 use std::io;
-use std::io::{Read, Write};
+use std::io::Read;
 
 // The bytes of a line with a length; the most bytes of an input, and one more; the most inputs.
-const HEADER: usize = 6;
+const LINE_BYTES: usize = 6;
 
 const INPUT_SPACE: usize = input::INPUT_BYTES + 1;
 
-const INPUTS: u32 = 1000;
+const INPUTS: usize = 1000;
 
-// Memory for an input.
-fn input_space() -> [u8; INPUT_SPACE]
-    ensures { 32769 ≡ length result }
+// Reads the line in front of an input, and gives the input's length; none where no input is left.
+fn next_size<R: Read>(from: &mut R) -> io::Result<Option<usize>>
+    ensures { IfOk result (λ o. IfSome o (λ n. n ≤ 32769)) }
 {
-    [0u8; INPUT_SPACE]
-}
-
-// Reads one input into memory of its length and prints its output. A read that fails ends it with that error.
-fn run_input<R: Read, W: Write>(from: &mut R, to: &mut W, input: &mut [u8]) -> io::Result<()> {
-    let size = stream_reader::read_full(from, input)?;
-    let _printed = printer::print_output(to, &input[..size]);
-    Ok(())
-}
-
-// Runs the next input; false where none is left.
-fn run_next<R: Read, W: Write>(from: &mut R, to: &mut W) -> io::Result<bool> {
-    let mut header = [0u8; HEADER];
-    if stream_reader::read_full(from, &mut header)? < HEADER {
-        return Ok(false);
+    let mut line = [0u8; LINE_BYTES];
+    if stream_reader::read_full(from, &mut line)? < LINE_BYTES {
+        return Ok(None);
     }
-    let n = digit_reader::number_at(&header, 0) as usize;
-    let mut input = input_space();
-    if INPUT_SPACE < n {
-        return Ok(false);
-    }
-    run_input(from, to, &mut input[0..n])?;
-    Ok(true)
+    let size = digit_reader::number_at(&line, 0) as usize;
+    Ok((size <= INPUT_SPACE).then_some(size))
 }
 
-// Runs the inputs one after the other.
+// Runs the inputs one after the other, in memory for one. The last may be cut short.
 fn main(rt: HostRuntime) -> io::Result<()> {
     let mut from = rt.stdin();
-    let mut to = rt.stdout();
-    let mut left = INPUTS;
-    while 0 < left {
-        if !run_next(&mut from, &mut to)? {
+    let mut memory = [0u8; INPUT_SPACE];
+    for _ in 0..INPUTS {
+        let Some(size) = next_size(&mut from)? else {
             return Ok(());
-        }
-        left -= 1;
+        };
+        let read = stream_reader::read_full(&mut from, &mut memory[..size])?;
+        let _ = printer::print_output(&mut rt.stdout(), &memory[..read]);
     }
     Ok(())
 }

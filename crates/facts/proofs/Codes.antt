@@ -1,5 +1,6 @@
 -- The papers' numbers tell the answers apart: an answer is read back from its number, place and count and the term it names.
 -- Assumes nothing.
+use Rattle.std.specs.Prelude.{Err}
 use mathlib.Core.Path.{◌≡◌, refl, sym, ap, ◌∙◌}
 use mathlib.Core.Bool.{cond}
 use mathlib.Core.List.{List, [], ◌∷◌}
@@ -10,8 +11,7 @@ use lib.Dec.{eqb}
 use Rattle.facts.specs.declared.Code.{Code}
 use Rattle.facts.specs.declared.Refusal.{Refusal}
 use Rattle.facts.specs.declared.Refusal.TheVariants.{Size, Column, Term, Blank, Part, Order, Allowance, Short, Form, Step, End, Class, Statement, UnknownNode, Crowd}
-use Rattle.facts.specs.declared.Answer.{Answer}
-use Rattle.facts.specs.declared.Answer.TheVariants.{Done, Yes, No, Long, Accepted, Refused}
+use Rattle.facts.specs.Results.{Answer, Done, Yes, No, Long, Accepted, Refused}
 use Rattle.facts.specs.Answers.{code_of, number_of, YesWith, LongWith, SaysNo, AcceptedWith, RefusedWith}
 
 -- the refusals in the order of their numbers
@@ -45,27 +45,30 @@ answer_for c =
     (cond (eqb c.number 92) (Long c.count)
     (cond (eqb c.number 93) (Accepted c.count) (Refused (get_or refusals (c.number - 1) Size) c.place)))))
 
+refusal_back : (r : Refusal) (place : ℕ) → answer_for (code_of (Refused r place)) ≡ Refused r place
+refusal_back Size place = refl
+refusal_back Column place = refl
+refusal_back Term place = refl
+refusal_back Blank place = refl
+refusal_back Part place = refl
+refusal_back Order place = refl
+refusal_back Allowance place = refl
+refusal_back Short place = refl
+refusal_back Form place = refl
+refusal_back Step place = refl
+refusal_back End place = refl
+refusal_back Class place = refl
+refusal_back Statement place = refl
+refusal_back UnknownNode place = refl
+refusal_back Crowd place = refl
+
 answer_back : (a : Answer) → answer_for (code_of a) ≡ a
 answer_back (Done n) = refl
 answer_back (Yes n x) = refl
 answer_back No = refl
 answer_back (Long n) = refl
 answer_back (Accepted n) = refl
-answer_back (Refused Size place) = refl
-answer_back (Refused Column place) = refl
-answer_back (Refused Term place) = refl
-answer_back (Refused Blank place) = refl
-answer_back (Refused Part place) = refl
-answer_back (Refused Order place) = refl
-answer_back (Refused Allowance place) = refl
-answer_back (Refused Short place) = refl
-answer_back (Refused Form place) = refl
-answer_back (Refused Step place) = refl
-answer_back (Refused End place) = refl
-answer_back (Refused Class place) = refl
-answer_back (Refused Statement place) = refl
-answer_back (Refused UnknownNode place) = refl
-answer_back (Refused Crowd place) = refl
+answer_back (Err stop) = refusal_back stop.refusal stop.place
 
 -- answers with the same numbers are the same
 pub same_answer : (a b : Answer) → code_of a ≡ code_of b → a ≡ b

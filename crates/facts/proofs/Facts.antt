@@ -13,8 +13,7 @@ use Rattle.facts.specs.declared.Kind.TheVariants.{NoTerm, Vocabulary, Name, Lite
 use Rattle.facts.specs.declared.Fact.{Fact}
 use Rattle.facts.specs.declared.Refusal.{Refusal}
 use Rattle.facts.specs.declared.Refusal.TheVariants.{Order}
-use Rattle.facts.specs.declared.Verdict.{Verdict}
-use Rattle.facts.specs.declared.Verdict.TheVariants.{Sound, Faulty}
+use Rattle.facts.specs.Results.{Verdict, Sound, Faulty}
 use Rattle.facts.specs.Terms.{kind_of, is_no_term, is_vocabulary, is_name, is_literal, is_blank, sc, sp, dom, range, type}
 use Rattle.facts.specs.Facts.{named_subject, named_object, is_node, is_predicate, well_formed, has_no_term, has_blank, misplaced, text_as_class, fault_of, or_else, order_of, verdict_of, before}
 use Rattle.facts.proofs.Terms.{by_cases, of_T, and-false, neither, none_of, node-kinds, predicate-kinds, node-name, OfKind, kind-within, vocabulary-below}

@@ -10,7 +10,7 @@ use lib.Dec.{T}
 use Rattle.facts.specs.declared.Kind.{Kind}
 use Rattle.facts.specs.declared.Kind.TheVariants.{NoTerm, Vocabulary, Name, Literal, BlankNode, Beyond}
 use Rattle.facts.specs.declared.Fact.{Fact}
-use Rattle.facts.specs.declared.Verdict.TheVariants.{Sound}
+use Rattle.facts.specs.Results.{Sound}
 use Rattle.facts.specs.Terms.{kind_of, is_no_term, is_vocabulary, is_literal, is_blank}
 use Rattle.facts.specs.Facts.{fact, named_subject, named_object, is_node, is_predicate, well_formed, has_no_term, has_blank, misplaced, text_as_class, fault_of}
 use Rattle.facts.specs.Gaps.{is_gap, SameTerm, AsksSame, Fills, Askable, gapless, subject-gap, object-gap, blank_refused, question_fault, filling_of, term_or, filled_by}

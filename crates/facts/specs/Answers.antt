@@ -1,10 +1,9 @@
 -- The papers' number, place and count for each answer, and the term that a yes names for a gap (document 02, Point 1).
 -- Assumes nothing.
-use Rattle.std.specs.Prelude.{◌≡◌, ◌⊎◌, ℕ}
+use Rattle.std.specs.Prelude.{◌≡◌, ◌⊎◌, ℕ, Err}
 use Rattle.facts.specs.declared.Refusal.{Refusal}
 use Rattle.facts.specs.declared.Refusal.TheVariants.{Size, Column, Term, Blank, Part, Order, Allowance, Short, Form, Step, End, Class, Statement, UnknownNode, Crowd}
-use Rattle.facts.specs.declared.Answer.{Answer}
-use Rattle.facts.specs.declared.Answer.TheVariants.{Done, Yes, No, Long, Accepted, Refused}
+use Rattle.facts.specs.Results.{Answer, Done, Yes, No, Long, Accepted}
 use Rattle.facts.specs.declared.Code.{Code}
 
 -- three numbers, and no term named
@@ -39,7 +38,7 @@ code_of (Yes n x) = yes_naming n x
 code_of No = numbered 91 0 0
 code_of (Long n) = numbered 92 0 n
 code_of (Accepted n) = numbered 93 0 n
-code_of (Refused r p) = numbered (number_of r) p 0
+code_of (Err stop) = numbered (number_of stop.refusal) stop.place 0
 
 -- ---- what the numbers say
 

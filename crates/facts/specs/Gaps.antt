@@ -3,8 +3,7 @@
 -- Assumes nothing.
 use Rattle.std.specs.Prelude.{◌≡◌, ◌⊎◌, Bool, true, false, cond, ◌&&◌, ◌||◌, ℕ, T}
 use Rattle.facts.specs.declared.Fact.{Fact}
-use Rattle.facts.specs.declared.Verdict.{Verdict}
-use Rattle.facts.specs.declared.Verdict.TheVariants.{Sound, Faulty}
+use Rattle.facts.specs.Results.{Verdict, Sound, Faulty}
 use Rattle.facts.specs.declared.Refusal.TheVariants.{Term, Blank, Part, Class}
 use Rattle.facts.specs.Terms.{kind_of, is_blank}
 use Rattle.facts.specs.Facts.{fact, well_formed, has_no_term, misplaced, text_as_class}

@@ -1,4 +1,5 @@
 pub mod Terms
+pub mod Results
 pub mod Facts
 pub mod Gaps
 pub mod Answers

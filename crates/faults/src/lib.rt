@@ -10,13 +10,11 @@ use facts::{Fact, Refusal, Verdict};
 use terms::is_well_formed;
 
 // What a well-formed fact earns: refusal 6, where it is not above the fact before it.
+#[tactic(auto, unfolding(facts::specs::Facts::order_of))]
 pub fn order(ascends: bool) -> Verdict
     ensures { result ≡ order_of ascends }
 {
-    if !ascends {
-        return Verdict::Faulty(Refusal::Order);
-    }
-    Verdict::Sound
+    if ascends { Ok(()) } else { Err(Refusal::Order) }
 }
 
 // The first of refusals 3, 4, 5, 12 and 6 that the fact earns, each over its whole width; ascends says that it is above the fact
@@ -25,23 +23,23 @@ pub fn verdict(ascends: bool, f: Fact) -> Verdict
     ensures { result ≡ verdict_of ascends f }
 {
     if is_well_formed(f) & ascends {
-        return Verdict::Sound;
+        return Ok(());
     }
     if has_no_term(f) {
-        return Verdict::Faulty(Refusal::Term);
+        return Err(Refusal::Term);
     }
     if has_blank(f) {
-        return Verdict::Faulty(Refusal::Blank);
+        return Err(Refusal::Blank);
     }
     let part = is_misplaced(f);
     let class = is_text_as_class(f);
     if part {
-        return Verdict::Faulty(Refusal::Part);
+        return Err(Refusal::Part);
     }
     if class {
-        return Verdict::Faulty(Refusal::Class);
+        return Err(Refusal::Class);
     }
-    Verdict::Faulty(Refusal::Order)
+    Err(Refusal::Order)
 }
 
 // The first of refusals 3, 4, 5 and 12 that a fact by itself earns.
@@ -51,15 +49,9 @@ pub fn fault(f: Fact) -> Verdict
     verdict(true, f)
 }
 
-// The order of facts: by subject, then predicate, then object.
+// The order of facts: by subject, then predicate, then object. It is the derived one; this name stands in the contracts of the tests above.
 pub fn comes_before(a: Fact, b: Fact) -> bool
     ensures { result ≡ before a b }
 {
-    if a.subject != b.subject {
-        return a.subject < b.subject;
-    }
-    if a.predicate != b.predicate {
-        return a.predicate < b.predicate;
-    }
-    a.object < b.object
+    a.cmp(&b).is_lt()
 }

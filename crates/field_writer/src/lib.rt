@@ -18,6 +18,7 @@ fn tenth(n: u64) -> u64
 }
 
 // The byte in a column, where n is what the number has from that column leftwards, and left from the next.
+#[tactic(auto, unfolding(columns::specs::Fields::column))]
 fn column_byte(n: u64, left: u64) -> u8
     requires { left ≡ n / 10 }
     ensures { result ≡ column n }
@@ -55,16 +56,13 @@ fn put_field(out: &mut [u8], at: usize, n: u32)
 }
 
 // Writes a line with the numbers into the front of the output.
+#[tactic(auto, unfolding(columns::specs::Lines::fields))]
 pub fn put_line(numbers: &[u32], out: &mut [u8])
     requires { (width (length numbers.now) ≤ length out.old) × Below numbers.now }
     ensures { out.new ≡ over (line numbers.now) out.old }
 {
-    let mut i = 0;
-    let mut at = 0;
-    while i < numbers.len() {
-        put_field(out, at, numbers[i]);
-        at += 5;
-        i += 1;
+    for (i, n) in numbers.iter().enumerate() {
+        put_field(out, 5 * i, *n);
     }
-    out[at] = LINE_END;
+    out[5 * numbers.len()] = LINE_END;
 }

@@ -13,13 +13,15 @@ use terms::is_gap;
 const SOME_NAME: u32 = 6;
 
 // What earns refusal 4 in a question: a blank predicate, or two blanks.
+#[tactic(auto, unfolding(facts::specs::Gaps::blank_refused))]
 fn is_blank_refused(t: Fact) -> bool
     ensures { result ≡ blank_refused t }
 {
     is_gap(t.predicate) | (is_gap(t.subject) & is_gap(t.object))
 }
 
-// What stands in u where t has its gap, and 0 where t has none.
+// What stands in u where t has its gap, and 0 where t has none: no Option, since C gets a yes with 0 there.
+#[tactic(auto, unfolding(facts::specs::Gaps::filling_of))]
 pub fn filling_of(t: Fact, u: Fact) -> u32
     ensures { result ≡ filling_of t u }
 {
@@ -33,6 +35,7 @@ pub fn filling_of(t: Fact, u: Fact) -> u32
 }
 
 // A term, or x where it is a gap.
+#[tactic(auto, unfolding(facts::specs::Gaps::term_or))]
 fn term_or(x: u32, n: u32) -> u32
     ensures { result ≡ term_or x n }
 {
@@ -40,6 +43,7 @@ fn term_or(x: u32, n: u32) -> u32
 }
 
 // t with x in its gap.
+#[tactic(auto, unfolding(facts::specs::Gaps::filled_by))]
 pub fn filled_by(t: Fact, x: u32) -> Fact
     ensures { result ≡ filled_by t x }
 {
@@ -52,14 +56,15 @@ pub fn filled_by(t: Fact, x: u32) -> Fact
 
 // The first of refusals 3, 4, 5 and 12 that a question's triple earns: one gap, as subject or object, earns none, and a name in its
 // place leaves what the other terms earn.
+#[tactic(auto, unfolding(facts::specs::Gaps::question_fault))]
 pub fn question_fault(t: Fact) -> Verdict
     ensures { result ≡ question_fault t }
 {
     if has_no_term(t) {
-        return Verdict::Faulty(Refusal::Term);
+        return Err(Refusal::Term);
     }
     if is_blank_refused(t) {
-        return Verdict::Faulty(Refusal::Blank);
+        return Err(Refusal::Blank);
     }
     fault(filled_by(t, SOME_NAME))
 }

@@ -1,6 +1,7 @@
 -- Keys: in order as their facts are, one for each fact; and what a row of them holds after one more.
 -- Assumes nothing.
 use mathlib.Core.Path.{◌≡◌, refl, sym, ap, ◌∙◌}
+use mathlib.Core.Bool.{true, false}
 use mathlib.Core.Logic.{◌⊎◌, inl, inr, ⊎_elim, ◌↔◌}
 use mathlib.Core.List.{List, [], ◌∷◌, ◌++◌, map, Memᴰ}
 use Prim.Native.Nat.{ℕ, zero, suc, ◌+◌, ◌≤◌, ◌<◌}
@@ -9,7 +10,7 @@ use native.Mathlib.Nat.{zero-add}
 use native.Mathlib.Numerals.{add-one}
 use lib.ListN.{length, get_or, take, drop, length-map, get_or-map}
 use lib.Seq.{length-take-le, get_or-take, take-take}
-use lib.Dec.{T}
+use lib.Dec.{T, ltb}
 use Rattle.columns.specs.Lines.{items_from}
 use Rattle.columns.proofs.Lists.{items-listed}
 use Rattle.facts.specs.declared.Fact.{Fact}
@@ -19,6 +20,12 @@ use Rattle.facts.proofs.Facts.{fact-eq, Before, by-subject, by-predicate, by-obj
 use Rattle.table.proofs.Lists.{ascends-at}
 use Rattle.ordered.specs.Inserted.{inserted}
 use Rattle.ordered.proofs.Inserted.{inserted-length, front}
+use Rattle.ordered.proofs.Inserted as ordered
+use Rattle.ordered.proofs.Rising.{lighter}
+use Rattle.std.specs.List.Sorted.{IsPartitionedBy, IsPartitionPoint}
+use Rattle.std.proofs.lemmas.List.{get_or_default}
+use native.Mathlib.Decide.{dec_lt}
+use borrow.Author.Tests.{ltb-true, ltb-false, lt-ltb}
 use Rattle.gathering.specs.Gathered.{with}
 use Rattle.gathering.specs.Keys.{key_of, fact_of_key, Narrow, Holds, Rises, Cut, Adds}
 use Rattle.gathering.proofs.Gathered.{with-only, with-ascends, with-held, before-not}
@@ -50,6 +57,51 @@ key-fact f n = fact-eq _ f (omega arith) (omega arith) (omega arith)
 
 key-injective : (a b : Fact) → Narrow a → Narrow b → key_of a ≡ key_of b → a ≡ b
 key-injective a b m n e = sym (key-fact a m) ∙ ap fact_of_key e ∙ key-fact b n
+
+-- ---- a row of numbers that rise
+
+module _ (row : List ℕ) (n : ℕ) (rises : Rises row n) where
+  at-place : (i d : ℕ) → i < n → get_or (take n row) i d ≡ get_or row i 0
+  at-place i d h = get_or-take n row i d h ∙ get_or_default row i d 0 (omega (arith, rises.room))
+
+  in-order : (i j : ℕ) → i ≤ j → j < n → get_or row i 0 ≤ get_or row j 0
+  in-order i j h g = go (dec_lt i j)
+    where
+      go : Dec (i < j) → get_or row i 0 ≤ get_or row j 0
+      go (yes p) = omega (arith, lighter (λ k. get_or row k 0) n rises.rising j i p g)
+      go (no p) = let e : i ≡ j = omega arith in rw e (omega arith)
+
+  long : length (take n row) ≡ n
+  long = length-take-le n row rises.room
+
+  -- those below a key come first
+  pub parted : (key : ℕ) → IsPartitionedBy (λ y. ltb y key) (take n row)
+  parted key i j d h g e =
+      let l : j < n = omega (arith, long) in
+      rw (at-place i d (omega arith)) (lt-ltb _ _ (omega (arith, in-order i j h l, ltb-true _ _ (rw (at-place j d l) at e))))
+
+  pub cut-at : (key r : ℕ) → r ≤ length (take n row) → IsPartitionPoint (λ y. ltb y key ≡ true) (λ y. ltb y key ≡ false) (take n row) r → Cut row n key r
+  cut-at key r h p =
+      record {
+        within = omega (arith, long);
+        below = λ i l. ltb-true _ _ (rw (at-place i 0 (omega (arith, long))) at (p.0 i 0 (omega arith) l));
+        above = λ i l g. ltb-false _ _ (rw (at-place i 0 g) at (p.1 i 0 l (omega (arith, long))));
+      }
+
+  -- one more, in its place
+  pub still-rises : (key r : ℕ) → n < length row → Cut row n key r → (r < n → get_or row r 0 ≡ key → ⊥) → Rises (inserted row n r key) (n + 1)
+  still-rises key r more cut other =
+      record {
+        room = omega (arith, inserted-length row n r key cut.within more);
+        rising = λ i h. ordered.rises row n r key cut.within more (λ k. k) rises.rising cut.below above i (omega arith);
+      }
+    where
+      above : (i : ℕ) → r ≤ i → i < n → key < get_or row i 0
+      above i h l = go (dec_lt r i)
+        where
+          go : Dec (r < i) → key < get_or row i 0
+          go (yes p) = omega (arith, cut.above r (omega arith) (omega arith), lighter (λ k. get_or row k 0) n rises.rising i r p l)
+          go (no p) = let e : i ≡ r = omega arith in rw e (omega (arith, cut.above r (omega arith) (omega arith), other (omega arith)))
 
 -- ---- a row of keys
 

@@ -44,13 +44,7 @@ pub record Cut (keys : List ℕ) (n key r : ℕ) : Type 0 where
 
 -- ---- one more fact
 
--- some facts' keys, and room for one more
-pub record Room (keys : List ℕ) (n : ℕ) : Type 0 where
-  pub facts : List Fact
-  pub held : Holds keys n facts
-  pub more : n < length keys
-
--- then f's key is put among them, unless it is there, and r of them are held
+-- f's key is put among them, unless it is there, and r of them are held then
 pub record Adds (f : Fact) (before after : List ℕ) (r : ℕ) (gs : List Fact) : Type 0 where
   pub size : length after ≡ length before
   pub held : Holds after r (with f gs)

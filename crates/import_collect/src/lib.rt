@@ -1,132 +1,91 @@
 // The facts of an input, gathered (document 02, Point 3).
 #![tactic(auto)]
 
-ghost use Rattle.std.specs.Prelude.{◌≡◌, ◌≤◌, length};
-ghost use mathlib.Core.List.{[], ◌∷◌, replicate};
+ghost use Rattle.std.specs.Prelude.{◌≡◌, ◌+◌, ◌≤◌, length};
+ghost use mathlib.Core.List.{[], ◌∷◌};
 ghost use Rattle.ntriples.specs.Tokens.{part};
 ghost use Rattle.numbering.specs.Index.{Here};
 ghost use Rattle.imports.specs.Lines.{lines_of, said, statements};
-ghost use Rattle.imports.specs.Collecting.{GivesTerm, Open, Stands, statement_at, Grows, begun, Collected};
+ghost use Rattle.imports.specs.Collecting.{GivesTerm, Open, Stands, TripleStands, statement_at, Grows, Collected};
 
-use fact_keys::add_key;
+use fact_keys::Keys;
 use facts::Fact;
-use imports::{CROWD, ENTRIES, Progress};
+use imports::{CROWD, ENTRIES};
 use input_lines::line_end;
 use line_parser::parse;
-use ntriples::{Line, Span};
-use numbering::{Counts, Numbered};
+use ntriples::{Span, Triple};
+use token_index::Index;
+use vocabulary::vocabulary_of;
 
 // A token's number: the vocabulary's own, or that by its first appearance, and then the index has its entry.
-fn term(input: &[u8], from: usize, to: usize, items: &mut [u64], counts: Counts) -> Numbered
-    requires { Here input.now from to items.old counts }
-    ensures { GivesTerm input.now from to items.old items.new counts result }
+fn term(index: &mut Index<ENTRIES>, input: &[u8], token: Span) -> u32
+    requires { Here input.now token.from token.to index.old.items index.old.counts }
+    ensures { GivesTerm input.now token.from token.to index.old.items index.new.items index.old.counts index.new.counts result }
 {
-    let v = vocabulary::vocabulary_of(&input[from..to]);
-    if v != 0 {
-        return Numbered {
-            number: v,
-            counts: counts,
-        };
+    match vocabulary_of(&input[token.from..token.to]) {
+        Some(number) => number,
+        None => index.number(input, token),
     }
-    token_index::number(input, from, to, items, counts)
 }
 
-// One statement more, whose tokens stand at these spans behind a place: its tokens in the index, and its fact's key among the keys.
+// A span of a line that begins at a place of the input, as a span of the input.
+fn in_input(at: usize, span: Span) -> Span
+    requires { (at + span.from ≤ 65536) × (at + span.to ≤ 65536) }
+    ensures { result ≡ record { from = at + span.from; to = at + span.to } }
+{
+    Span {
+        from: at + span.from,
+        to: at + span.to,
+    }
+}
+
+// One statement more, whose tokens stand at their spans behind a place: its tokens in the index, and its fact's key among the keys.
 fn add_statement(
+    index: &mut Index<ENTRIES>,
+    keys: &mut Keys<CROWD>,
     input: &[u8],
     at: usize,
-    subject: Span,
-    predicate: Span,
-    object: Span,
-    items: &mut [u64],
-    keys: &mut [u64],
-    g: Progress,
-) -> Progress
-    requires { Open input.now items.old keys.old g × Stands input.now at subject × Stands input.now at predicate × Stands input.now at object }
-    ensures { Grows input.now (statement_at input.now at subject predicate object ∷ []) items.old items.new keys.old keys.new g result }
+    t: Triple,
+)
+    requires { Open input.now index.old.items index.old.counts keys.old.row keys.old.len × TripleStands input.now at t }
+    ensures { Grows input.now (statement_at input.now at t ∷ []) index.old.items index.new.items index.old.counts index.new.counts keys.old.row keys.new.row keys.old.len keys.new.len }
 {
-    let s = term(input, at + subject.from, at + subject.to, items, g.counts);
-    let p = term(
-        input,
-        at + predicate.from,
-        at + predicate.to,
-        items,
-        s.counts,
-    );
-    let o = term(input, at + object.from, at + object.to, items, p.counts);
-    let f = Fact {
-        subject: s.number,
-        predicate: p.number,
-        object: o.number,
-    };
-    let n = add_key(keys, g.facts, f);
-    let counts = o.counts;
-    Progress {
-        counts: counts,
-        facts: n,
-    }
+    let subject = term(index, input, in_input(at, t.subject));
+    let predicate = term(index, input, in_input(at, t.predicate));
+    let object = term(index, input, in_input(at, t.object));
+    keys.add(Fact {
+        subject,
+        predicate,
+        object,
+    });
 }
 
 // The statement of a line, if it makes one.
-fn add_line(
-    input: &[u8],
-    at: usize,
-    end: usize,
-    items: &mut [u64],
-    keys: &mut [u64],
-    g: Progress,
-) -> Progress
-    requires { Open input.now items.old keys.old g × (at ≤ end) × (end ≤ length input.now) }
-    ensures { Grows input.now (said (part input.now at end)) items.old items.new keys.old keys.new g result }
+fn add_line(index: &mut Index<ENTRIES>, keys: &mut Keys<CROWD>, input: &[u8], at: usize, end: usize)
+    requires { Open input.now index.old.items index.old.counts keys.old.row keys.old.len × (at ≤ end) × (end ≤ length input.now) }
+    ensures { Grows input.now (said (part input.now at end)) index.old.items index.new.items index.old.counts index.new.counts keys.old.row keys.new.row keys.old.len keys.new.len }
 {
     match parse(&input[at..end]) {
-        Line::Outside => g,
-        Line::Unknown => g,
-        Line::Nothing => g,
-        Line::Triple {
-            subject,
-            predicate,
-            object,
-        } => { add_statement(input, at, subject, predicate, object, items, keys, g) }
+        Ok(Some(t)) => add_statement(index, keys, input, at, t),
+        Ok(None) => {}
+        Err(_) => {}
     }
 }
 
-// An index with no entry: three for each of 1,025 facts.
-fn no_items() -> [u64; ENTRIES]
-    ensures { result ≡ replicate 3075 0 }
+// Gathers the keys of an input's facts, up to the 1,025th. No `for` over `lines`: the index needs the place of a line, which a line alone lacks.
+pub fn collect(input: &[u8], keys: &mut Keys<CROWD>)
+    requires { length input.now ≤ 65536 }
+    ensures { Collected (statements (lines_of input.now)) keys.new.row keys.new.len }
 {
-    [0u64; ENTRIES]
-}
-
-// Nothing gathered yet.
-fn nothing() -> Progress
-    ensures { result ≡ begun }
-{
-    let counts = Counts {
-        names: 0,
-        literals: 0,
-    };
-    Progress {
-        counts: counts,
-        facts: 0,
-    }
-}
-
-// Puts the keys of an input's facts into the front of a row, up to the 1,025th. Their number.
-pub fn collect(input: &[u8], keys: &mut [u64]) -> usize
-    requires { (length input.now ≤ 65536) × (length keys.old ≡ 1025) }
-    ensures { Collected (statements (lines_of input.now)) keys.new result }
-{
-    let mut items = no_items();
-    let mut g = nothing();
+    keys.clear();
+    let mut index = Index::new();
     let mut at = 0;
     while at < input.len() {
         let end = line_end(input, at);
-        g = add_line(input, at, end, &mut items, keys, g);
-        if g.facts == CROWD {
-            return CROWD;
+        add_line(&mut index, keys, input, at, end);
+        if keys.len == CROWD {
+            return;
         }
         at = end + 1;
     }
-    g.facts
 }

@@ -1,28 +1,33 @@
 // The refusals that the lines of an input earn (document 02, Point 3): 13 and 14 of a line, then 5 and 12 of a statement's fact.
 #![tactic(auto)]
 
-ghost use Rattle.std.specs.Prelude.{◌≡◌, ◌≤◌, ◌<◌, length};
+ghost use Rattle.std.specs.Prelude.{◌≡◌, ◌≤◌, ◌<◌, length, Some, Ok, Err, MatchResult};
+ghost use Rattle.facts.specs.Results.{Sound, Faulty};
+ghost use Rattle.imports.specs.Results.{Clear};
 ghost use Rattle.ntriples.specs.Lexed.{line_of};
+ghost use Rattle.ntriples.specs.Tokens.{spanned};
 ghost use Rattle.imports.specs.Lines.{lines_of, said};
-ghost use Rattle.imports.specs.Import.{fact_refusal, found_on, or_else, judged};
+ghost use Rattle.imports.specs.Import.{line_refusal, fact_refusal, found_on, or_else, judged};
 ghost use Rattle.imports.specs.Samples.{sample_of, sample_fact};
 
 use byte_runs::byte_at;
-use facts::{Fact, Refusal, Verdict};
+use facts::{Fact, Refusal, Refused, Verdict};
 use faults::fault;
 use imports::Finding;
-use input_lines::line_end;
+use input_lines::lines;
 use line_parser::parse;
-use ntriples::{Line, QUOTE, Span};
+use ntriples::{QUOTE, Span, Triple};
 use numbering::{FIRST_LITERAL, FIRST_NAME};
 use vocabulary::vocabulary_of;
 
-// The vocabulary's own number, or the first of the token's kind.
-fn sample(token: &[u8]) -> u32
-    ensures { result ≡ sample_of token.now }
+// The vocabulary's own number of a line's token, or the first of the token's kind.
+#[tactic(auto, unfolding(imports::specs::Samples::sample_of, numbering::specs::Numbering::is_literal))]
+fn sample(line: &[u8], token: Span) -> u32
+    requires { (token.from ≤ token.to) × (token.to ≤ length line.now) }
+    ensures { result ≡ sample_of (spanned line.now token) }
 {
-    let v = vocabulary_of(token);
-    if v != 0 {
+    let token = &line[token.from..token.to];
+    if let Some(v) = vocabulary_of(token) {
         return v;
     }
     if byte_at(token, 0) == QUOTE {
@@ -31,40 +36,40 @@ fn sample(token: &[u8]) -> u32
     FIRST_NAME
 }
 
-// What the fact of a line's statement earns, whose tokens stand at these spans.
-fn statement_fault(line: &[u8], subject: Span, predicate: Span, object: Span) -> Verdict
-    requires { line_of line.now ≡ Line.Triple subject predicate object }
+// What the fact of a line's statement earns.
+fn statement_fault(line: &[u8], statement: Triple) -> Verdict
+    requires { line_of line.now ≡ Ok (Some statement) }
     ensures { result ≡ fact_refusal sample_fact (said line.now) }
 {
-    let s0 = subject.from;
-    let s1 = subject.to;
-    let p0 = predicate.from;
-    let p1 = predicate.to;
-    let o0 = object.from;
-    let o1 = object.to;
-    let f = Fact {
-        subject: sample(&line[s0..s1]),
-        predicate: sample(&line[p0..p1]),
-        object: sample(&line[o0..o1]),
-    };
-    fault(f)
+    fault(Fact {
+        subject: sample(line, statement.subject),
+        predicate: sample(line, statement.predicate),
+        object: sample(line, statement.object),
+    })
+}
+
+// What the fact of a line earns, where the line is in the subset; one that says nothing earns nothing.
+#[tactic(auto, unfolding(imports::specs::Import::line_refusal, imports::specs::Import::fact_refusal, imports::specs::Lines::said_by))]
+fn line_fault(line: &[u8]) -> Result<Verdict, Refusal>
+    ensures { MatchResult result (λ v. (line_refusal (line_of line.now) ≡ Sound) × (v ≡ fact_refusal sample_fact (said line.now))) (λ r. line_refusal (line_of line.now) ≡ Faulty r) }
+{
+    match parse(line)? {
+        None => Ok(Ok(())),
+        Some(statement) => Ok(statement_fault(line, statement)),
+    }
 }
 
 // What is held, or else a verdict on line i, counted from 0.
+#[tactic(auto, unfolding(imports::specs::Import::or_else, imports::specs::Import::found_on))]
 fn first(held: Finding, v: Verdict, i: u32) -> Finding
     requires { i < 65536 }
-    ensures { result ≡ or_else held (found_on v i Finding.Clear) }
+    ensures { result ≡ or_else held (found_on v i Clear) }
 {
-    match v {
-        Verdict::Sound => held,
-        Verdict::Faulty(r) => {
-            let found = Finding::Fault(r, i + 1);
-            match held {
-                Finding::Clear => found,
-                Finding::Fault(_, _) => held,
-            }
-        }
-    }
+    held?;
+    v.map_err(|refusal| Refused {
+        refusal,
+        place: i + 1,
+    })
 }
 
 // The first 13 or 14 of an input of at most 65,536 bytes, or else its first 5 or 12.
@@ -72,27 +77,18 @@ pub fn judge(input: &[u8]) -> Finding
     requires { length input.now ≤ 65536 }
     ensures { result ≡ judged (lines_of input.now) }
 {
-    let mut held = Finding::Clear;
-    let mut at = 0;
-    let mut i: u32 = 0;
-    while at < input.len() {
-        let end = line_end(input, at);
-        let line = &input[at..end];
-        match parse(line) {
-            Line::Outside => return Finding::Fault(Refusal::Statement, i + 1),
-            Line::Unknown => return Finding::Fault(Refusal::UnknownNode, i + 1),
-            Line::Nothing => i += 1,
-            Line::Triple {
-                subject,
-                predicate,
-                object,
-            } => {
-                let v = statement_fault(line, subject, predicate, object);
-                held = first(held, v, i);
-                i += 1;
+    let mut held = Ok(());
+    for (i, line) in lines(input).enumerate() {
+        let i = i as u32;
+        match line_fault(line) {
+            Ok(v) => held = first(held, v, i),
+            Err(refusal) => {
+                return Err(Refused {
+                    refusal,
+                    place: i + 1,
+                });
             }
         }
-        at = end + 1;
     }
     held
 }

@@ -11,14 +11,13 @@ use lib.Seq.{length-take-le, take-take, drop-drop}
 use Rattle.facts.specs.declared.Fact.{Fact}
 use Rattle.facts.specs.Facts.{fact}
 use Rattle.facts.proofs.Terms.{by_cases}
+use Rattle.std.specs.Prelude.{Some, None, Ok}
 use Rattle.ntriples.specs.declared.Span.{Span}
-use Rattle.ntriples.specs.declared.Line.{Line}
-use Rattle.ntriples.specs.declared.Line.TheVariants.{Triple}
+use Rattle.ntriples.specs.declared.Triple.{Triple}
 use Rattle.ntriples.specs.Tokens.{Token, part, spanned}
-use Rattle.ntriples.specs.Lexed.{line_of}
+use Rattle.ntriples.specs.Lexed.{Line, line_of}
 use Rattle.ntriples.proofs.Spans.{triple-spans}
 use Rattle.numbering.specs.declared.Counts.{Counts}
-use Rattle.numbering.specs.declared.Numbered.{Numbered}
 use Rattle.numbering.specs.Numbering.{has, place, is_literal, Known, with_token, number_in}
 use Rattle.numbering.specs.Vocabulary.{vocabulary, word_of, term_of, with_term}
 use Rattle.numbering.specs.Index.{entries, Kept, Here, Entered}
@@ -27,10 +26,9 @@ use Rattle.numbering.proofs.Terms as terms
 use Rattle.gathering.specs.Gathered.{with}
 use Rattle.gathering.specs.Keys.{Narrow, Holds, AddsTo}
 use Rattle.gathering.proofs.Gathered.{with-length, held-or-new}
-use Rattle.imports.specs.declared.Progress.{Progress}
 use Rattle.imports.specs.Lines.{Statement, said_by, said}
 use Rattle.imports.specs.Import.{known_by, fact_of, facts_of}
-use Rattle.imports.specs.Collecting.{Termed, Gathers, Stands, token_at, statement_at}
+use Rattle.imports.specs.Collecting.{Termed, Gathers, Stands, TripleStands, token_at, statement_at}
 use Rattle.imports.proofs.Facts.{known-snoc, facts-snoc, fact-held}
 
 -- the vocabulary's tokens need no entry, and the others one each
@@ -47,12 +45,12 @@ unfolding with_term
 with-else k t p = ap (λ (b : Bool). cond b k (with_token k t)) p
 
 -- a token of the vocabulary has its number, and the index stays
-pub termed-fixed : (input : List ℕ) (from to : ℕ) (items : List ℕ) (c : Counts) (v : ℕ) (k : Known) → Kept input items c k → v ≡ word_of (part input from to) → (v ≡ 0 → ⊥)
-    → Termed input from to items c (record { number = v; counts = c }) k
-termed-fixed input from to items c v k q e h =
+pub termed-fixed : (input : List ℕ) (from to : ℕ) (items : List ℕ) (c : Counts) (v : ℕ) (k : Known) → Kept input items c k → Some v ≡ word_of (part input from to) → Termed input from to items c c v k
+termed-fixed input from to items c v k q e =
     let t = part input from to in
     by_cases (has t vocabulary)
-    (λ p. let n : v ≡ 1 + place t vocabulary = e ∙ ap (λ (b : Bool). cond b (1 + place t vocabulary) 0) p in
+    (λ p. let z : Some v ≡ Some (1 + place t vocabulary) = rw p at e in
+    let n : v ≡ 1 + place t vocabulary = cc in
     let w : with_term k t ≡ k = terms.term-kept k t (inl p) in
     record {
       number = n ∙ sym (term-there (with_term k t) t p);
@@ -60,7 +58,7 @@ termed-fixed input from to items c v k q e h =
       kept = subst (Kept input items c) (sym w) q;
       more = omega arith;
     })
-    (λ p. absurd (h (e ∙ ap (λ (b : Bool). cond b (1 + place t vocabulary) 0) p)))
+    (λ p. let z : Some v ≡ None = rw p at e in absurd (cc))
 
 -- a number is narrow where few tokens have one
 narrow : (k : Known) (t : Token) → length k.names ≤ 4096 → length k.literals ≤ 4096 → terms.Numbered k t → term_of k t < 65536
@@ -70,24 +68,24 @@ narrow k t n l h =
     (λ p. by_cases (is_literal t) (λ q. omega (arith, (s.literal q).1)) (λ q. omega (arith, (s.name p q).1)))
 
 -- any other gets its number by first appearance
-pub termed-other : (input : List ℕ) (from to : ℕ) (before after : List ℕ) (c : Counts) (r : Numbered) (k : Known) → Here input from to before c
-    → 0 ≡ word_of (part input from to) → Entered input from to after c r k → Termed input from to after c r k
-termed-other input from to before after c r k h e m =
+pub termed-other : (input : List ℕ) (from to : ℕ) (before after : List ℕ) (c d : Counts) (r : ℕ) (k : Known) → Here input from to before c
+    → None ≡ word_of (part input from to) → Entered input from to after c d r k → Termed input from to after c d r k
+termed-other input from to before after c d r k h e m =
     let t = part input from to in
     by_cases (has t vocabulary)
-    (λ p. let n : 0 ≡ 1 + place t vocabulary = e ∙ ap (λ (b : Bool). cond b (1 + place t vocabulary) 0) p in absurd (omega arith))
+    (λ p. let z : None ≡ Some (1 + place t vocabulary) = rw p at e in absurd (cc))
     (λ p.
     let u = with_token k t in
     let w : with_term k t ≡ u = with-else k t p in
-    let q : Kept input after r.counts u = m.kept in
-    let n : r.number ≡ term_of (with_term k t) t = m.number ∙ sym (term-else u t p) ∙ ap (λ (x : Known). term_of x t) (sym w) in
-    let few : entries r.counts ≤ 4096 = omega (arith, m.more, h.room, h.most) in
+    let q : Kept input after d u = m.kept in
+    let n : r ≡ term_of (with_term k t) t = m.number ∙ sym (term-else u t p) ∙ ap (λ (x : Known). term_of x t) (sym w) in
+    let few : entries d ≤ 4096 = omega (arith, m.more, h.room, h.most) in
     let a : length u.names ≤ 4096 = omega (arith, q.names) in
     let b : length u.literals ≤ 4096 = omega (arith, q.literals) in
     record {
       number = n;
       narrow = rw (n, w) (narrow u t a b (inr (known-new k t)));
-      kept = subst (Kept input after r.counts) (sym w) q;
+      kept = subst (Kept input after d) (sym w) q;
       more = m.more;
     })
 
@@ -106,20 +104,20 @@ pub record Stated (input items : List ℕ) (c : Counts) (s : Statement) (f : Fac
   pub narrow : Narrow f
 
 -- the three terms, one behind the other
-pub stated : (input : List ℕ) (a b : ℕ) (d e : ℕ) (g h : ℕ) (x y z : List ℕ) (c : Counts) (r t u : Numbered) (k : Known)
-    → Termed input a b x c r k
-    → Termed input d e y r.counts t (with_term k (part input a b))
-    → Termed input g h z t.counts u (with_term (with_term k (part input a b)) (part input d e))
-    → Stated input z u.counts (record { subject = part input a b; predicate = part input d e; object = part input g h }) (fact r.number t.number u.number) k
-stated input a b d e g h x y z c r t u k p q o =
+pub stated : (input : List ℕ) (a b : ℕ) (d e : ℕ) (g h : ℕ) (x y z : List ℕ) (c₀ c₁ c₂ c₃ : Counts) (r t u : ℕ) (k : Known)
+    → Termed input a b x c₀ c₁ r k
+    → Termed input d e y c₁ c₂ t (with_term k (part input a b))
+    → Termed input g h z c₂ c₃ u (with_term (with_term k (part input a b)) (part input d e))
+    → Stated input z c₃ (record { subject = part input a b; predicate = part input d e; object = part input g h }) (fact r t u) k
+stated input a b d e g h x y z c₀ c₁ c₂ c₃ r t u k p q o =
     let l = with_term k (part input a b) in
     let m = with_term l (part input d e) in
     let n = with_term m (part input g h) in
     let s₁ = terms.numbered-new k (part input a b) in
     let s₂ = terms.numbered-still l (part input d e) (part input a b) s₁ in
     let p₂ = terms.numbered-new l (part input d e) in
-    let i : r.number ≡ term_of n (part input a b) = p.number ∙ sym (terms.term-still l (part input d e) (part input a b) s₁) ∙ sym (terms.term-still m (part input g h) (part input a b) s₂) in
-    let j : t.number ≡ term_of n (part input d e) = q.number ∙ sym (terms.term-still m (part input g h) (part input d e) p₂) in
+    let i : r ≡ term_of n (part input a b) = p.number ∙ sym (terms.term-still l (part input d e) (part input a b) s₁) ∙ sym (terms.term-still m (part input g h) (part input a b) s₂) in
+    let j : t ≡ term_of n (part input d e) = q.number ∙ sym (terms.term-still m (part input g h) (part input d e) p₂) in
     record { kept = o.kept; fact = rw (i, j, o.number) refl; narrow = record { subject = p.narrow; predicate = q.narrow; object = o.narrow } }
 
 -- a fact brings three tokens, and one that is held none: so three entries a fact are room enough
@@ -136,17 +134,17 @@ few-entries input items items' c d done s k l few old more =
     omega (arith, with-length f (facts_of done)))
     (λ (m : length (with f (facts_of done)) ≡ suc (length (facts_of done))). omega arith) (held-or-new f (facts_of done))
 
-pub gathers-more : (input items items' keys keys' : List ℕ) (g : Progress) (c : Counts) (n : ℕ) (done : List Statement) (s : Statement) (f : Fact)
-    → Gathers input items keys g done → g.facts ≤ 1024 → length items' ≡ length items → Stated input items' c s f (known_by done) → entries c ≤ entries g.counts + 3
-    → AddsTo f keys keys' g.facts n → Gathers input items' keys' (record { counts = c; facts = n }) (done ++ (s ∷ []))
-gathers-more input items items' keys keys' g c n done s f q few size t more add =
+pub gathers-more : (input items items' keys keys' : List ℕ) (b c : Counts) (m n : ℕ) (done : List Statement) (s : Statement) (f : Fact)
+    → Gathers input items b keys m done → m ≤ 1024 → length items' ≡ length items → Stated input items' c s f (known_by done) → entries c ≤ entries b + 3
+    → AddsTo f keys keys' m n → Gathers input items' c keys' n (done ++ (s ∷ []))
+gathers-more input items items' keys keys' b c m n done s f q few size t more add =
     let e = known-snoc done s in
     let a = add (facts_of done) q.held in
     let k : Kept input items' c (known_by (done ++ (s ∷ []))) = subst (Kept input items' c) (sym e) t.kept in
     let x : f ≡ fact_of (known_by (done ++ (s ∷ []))) s = t.fact ∙ ap (λ (x : Known). fact_of x s) (sym e) in
     let w : with f (facts_of done) ≡ facts_of (done ++ (s ∷ [])) = ap (λ (y : Fact). with y (facts_of done)) x ∙ sym (facts-snoc done s) in
-    let m : g.facts ≡ length (facts_of done) = q.held.count in
-    let l = few-entries input items items' g.counts c done s q.index k (omega arith) (omega (arith, q.tokens)) more in
+    let h : m ≡ length (facts_of done) = q.held.count in
+    let l = few-entries input items items' b c done s q.index k (omega arith) (omega (arith, q.tokens)) more in
     record {
       few = q.few;
       index = k;
@@ -174,27 +172,32 @@ part-part s at end from to h g =
     ∙ ap (λ (x : ℕ). take x (drop (at + from) s)) (sym e)
 
 -- the statement that a line of the input makes stands at its spans behind the line's place
-pub line-said : (input : List ℕ) (at end : ℕ) (a b c : Span) → at ≤ end → end ≤ length input → line_of (part input at end) ≡ Triple a b c
-    → (said (part input at end) ≡ statement_at input at a b c ∷ []) × Stands input at a × Stands input at b × Stands input at c
+pub line-said : (input : List ℕ) (at end : ℕ) (t : Triple) → at ≤ end → end ≤ length input → line_of (part input at end) ≡ Ok (Some t)
+    → (said (part input at end) ≡ statement_at input at t ∷ []) × TripleStands input at t
 unfolding said_by
-line-said input at end a b c h g e =
+line-said input at end t h g e =
+    let a = t.subject in
+    let b = t.predicate in
+    let c = t.object in
     let l = part input at end in
-    let s = triple-spans l a b c e in
+    let s = triple-spans l t e in
     let n : length l ≡ end - at = length-take-le (end - at) (drop at input) (omega (arith, length-drop at input)) in
     let x : spanned l a ≡ token_at input at a = part-part input at end a.from a.to (omega (arith, s.subject)) (omega (arith, s.subject-predicate, s.predicate, s.predicate-object, s.object, s.inside)) in
     let y : spanned l b ≡ token_at input at b = part-part input at end b.from b.to (omega (arith, s.predicate)) (omega (arith, s.predicate-object, s.object, s.inside)) in
     let z : spanned l c ≡ token_at input at c = part-part input at end c.from c.to (omega (arith, s.object)) (omega (arith, s.inside)) in (
       ap (said_by l) e ∙ rw (x, y, z) refl,
-      record { some = omega (arith, s.subject); within = omega (arith, s.subject-predicate, s.predicate, s.predicate-object, s.object, s.inside) },
-      record { some = omega (arith, s.predicate); within = omega (arith, s.predicate-object, s.object, s.inside) },
-      record { some = omega (arith, s.object); within = omega (arith, s.inside) },
+      record {
+        subject = record { some = omega (arith, s.subject); within = omega (arith, s.subject-predicate, s.predicate, s.predicate-object, s.object, s.inside) };
+        predicate = record { some = omega (arith, s.predicate); within = omega (arith, s.predicate-object, s.object, s.inside) };
+        object = record { some = omega (arith, s.object); within = omega (arith, s.inside) };
+      },
     )
 
 -- the same statements, gathered
-pub gathers-as : {input items keys : List ℕ} {g : Progress} (done : List Statement) {ss us : List Statement} → ss ≡ us → Gathers input items keys g (done ++ us) → Gathers input items keys g (done ++ ss)
-gathers-as {input} {items} {keys} {g} done e q = subst (λ (x : List Statement). Gathers input items keys g (done ++ x)) (sym e) q
+pub gathers-as : {input items keys : List ℕ} {c : Counts} {n : ℕ} (done : List Statement) {ss us : List Statement} → ss ≡ us → Gathers input items c keys n (done ++ us) → Gathers input items c keys n (done ++ ss)
+gathers-as {input} {items} {keys} {c} {n} done e q = subst (λ (x : List Statement). Gathers input items c keys n (done ++ x)) (sym e) q
 
 -- and a line that makes none adds nothing
-pub line-silent : (input items keys : List ℕ) (g : Progress) (done : List Statement) (l : List ℕ) (v : Line) → line_of l ≡ v → said_by l v ≡ [] → Gathers input items keys g done
-    → Gathers input items keys g (done ++ said l)
-line-silent input items keys g done l v e n q = gathers-as done (ap (said_by l) e ∙ n) (subst (Gathers input items keys g) (sym (append-nil done)) q)
+pub line-silent : {input items keys : List ℕ} {c : Counts} {n : ℕ} (done : List Statement) (l : List ℕ) (v : Line) → line_of l ≡ v → said_by l v ≡ [] → Gathers input items c keys n done
+    → Gathers input items c keys n (done ++ said l)
+line-silent {input} {items} {keys} {c} {n} done l v e h q = gathers-as done (ap (said_by l) e ∙ h) (subst (Gathers input items c keys n) (sym (append-nil done)) q)

@@ -1,5 +1,6 @@
 -- What is found on lines: the first fault and its place, or none.
 -- Assumes nothing.
+use Rattle.std.specs.Prelude.{Err}
 use mathlib.Core.Path.{◌≡◌, refl, sym, ap, ◌∙◌}
 use mathlib.Core.Logic.{◌⊎◌, inl, inr, ⊎_elim}
 use mathlib.Core.List.Memᴰ
@@ -7,13 +8,12 @@ use mathlib.Core.List.{List, [], ◌∷◌, Memᴰ}
 use Prim.Native.Nat.{ℕ, zero, suc, ◌+◌, ◌<◌}
 use native.Mathlib.Omega.{arith}
 use lib.ListN.{length, get_or}
+use Rattle.facts.proofs.Results.{same_parts}
 use Rattle.facts.specs.declared.Fact.{Fact}
 use Rattle.facts.specs.declared.Refusal.{Refusal}
-use Rattle.facts.specs.declared.Verdict.{Verdict}
-use Rattle.facts.specs.declared.Verdict.TheVariants.{Sound, Faulty}
+use Rattle.facts.specs.Results.{Verdict, Sound, Faulty}
 use Rattle.ntriples.specs.Lexed.{line_of}
-use Rattle.imports.specs.declared.Finding.{Finding}
-use Rattle.imports.specs.declared.Finding.TheVariants.{Clear, Fault}
+use Rattle.imports.specs.Results.{Finding, Clear, Fault}
 use Rattle.imports.specs.Lines.{Statement, said}
 use Rattle.imports.specs.Import.{line_refusal, fact_refusal, found_on, first_on, or_else, judged_by}
 
@@ -22,13 +22,13 @@ not_found e = absurd (let z : ◌≡◌ {A = ℕ} 0 1 = ap told (sym e) in omega
   where
     told : Finding → ℕ
     told Clear = 0
-    told (Fault r place) = 1
+    told (Err stop) = 1
 
 -- nothing found by either
 pub both-clear : (f g : Finding) → or_else f g ≡ Clear → (f ≡ Clear) × (g ≡ Clear)
 unfolding or_else
 both-clear Clear g e = (refl, e)
-both-clear (Fault r place) g e = not_found e
+both-clear (Err stop) g e = not_found e
 
 -- a verdict on a line, and what is found behind it
 pub found-clear : (v : Verdict) (i : ℕ) (later : Finding) → found_on v i later ≡ Clear → (v ≡ Sound) × (later ≡ Clear)
@@ -78,8 +78,9 @@ first_says judge i (l ∷ ls) r place e = go (judge l) refl e (first_says judge 
     go Sound p q later = first-behind judge i l ls r place p (later (found-sound i (first_on judge (suc i) ls) ∙ q))
     go (Faulty u) p q later =
         let w : Fault u (suc i) ≡ Fault r place = found-faulty u i (first_on judge (suc i) ls) ∙ q in
-        let x : u ≡ r = cc in
-        let y : suc i ≡ place = cc in
+        let parts = same_parts w in
+        let x : u ≡ r = parts.0 in
+        let y : suc i ≡ place = parts.1 in
         record { at = 0; counted = omega arith; within = omega arith; before = λ j h. absurd (omega arith); here = p ∙ ap Faulty x }
 
 first-is : (judge : List ℕ → Verdict) (i : ℕ) (ls : List (List ℕ)) (r : Refusal) (at : ℕ) → at < length ls → ((j : ℕ) → j < at → judge (get_or ls j []) ≡ Sound)
@@ -106,7 +107,7 @@ sound-clear judge i (l ∷ ls) h = ap (λ (v : Verdict). found_on v i (first_on 
 pub else-fault : (f g : Finding) (r : Refusal) (place : ℕ) → or_else f g ≡ Fault r place → (f ≡ Fault r place) ⊎ ((f ≡ Clear) × (g ≡ Fault r place))
 unfolding or_else
 else-fault Clear g r place e = inr (refl, e)
-else-fault (Fault q p) g r place e = inl e
+else-fault (Err stop) g r place e = inl e
 
 pub judged-fault : (f : Statement → Fact) (ls : List (List ℕ)) (r : Refusal) (place : ℕ) → judged_by f ls ≡ Fault r place
     → FirstFault (λ l. line_refusal (line_of l)) 0 ls r place ⊎ ((first_on (λ l. line_refusal (line_of l)) 0 ls ≡ Clear) × FirstFault (λ l. fact_refusal f (said l)) 0 ls r place)

@@ -1,43 +1,38 @@
 -- What an input comes to: its refusal, or the table of its facts, which is one that the reader accepts.
 -- Assumes nothing.
+use Rattle.std.specs.Prelude.{Err, None, Some, Ok}
 use mathlib.Core.Path.{◌≡◌, refl, sym, ap, subst, ◌∙◌}
 use mathlib.Core.Logic.{⊎_elim}
 use mathlib.Core.List.Memᴰ
 use mathlib.Core.List.{List, [], ◌∷◌, map, Memᴰ}
-use Prim.Native.Nat.{ℕ, suc, ◌*◌, ◌≤◌, ◌<◌}
+use Prim.Native.Nat.{ℕ, ◌*◌, ◌≤◌, ◌<◌}
 use native.Mathlib.Omega.{arith}
 use native.Mathlib.Decide.{dec_lt}
 use lib.ListN.{length, take, drop}
 use lib.Seq.{take-append_seam}
-use lib.Dec.{T, eqb}
+use lib.Dec.{T}
 use mir.Facts.{yes_and}
 use borrow.Author.Tests.{le-leb, lt-leb}
 use Rattle.columns.specs.Lines.{over}
 use Rattle.facts.specs.declared.Fact.{Fact}
 use Rattle.facts.specs.declared.Refusal.{Refusal}
 use Rattle.facts.specs.declared.Refusal.TheVariants as refusals
-use Rattle.facts.specs.declared.Verdict.{Verdict}
-use Rattle.facts.specs.declared.Verdict.TheVariants.{Sound}
-use Rattle.facts.specs.declared.Answer.{Answer}
-use Rattle.facts.specs.declared.Answer.TheVariants.{Refused}
+use Rattle.facts.specs.Results.{Verdict, Sound, Answer, Refused}
 use Rattle.facts.specs.Facts.{well_formed, fault_of}
-use Rattle.facts.proofs.Terms.{by_cases}
 use Rattle.facts.proofs.Facts.{fault-none}
 use Rattle.table.specs.Tables.{Table, accepted, refused, all_formed, ascending, TableFacts, row_of, table_bytes, table_of_row, Transfers}
 use Rattle.table.proofs.Rows.{row-length, settle-refused}
 use Rattle.table.proofs.Tables.{table_of_row-accepted}
-use Rattle.ntriples.specs.declared.Line.{Line}
-use Rattle.ntriples.specs.declared.Line.TheVariants.{Outside, Unknown, Nothing, Triple}
-use Rattle.ntriples.specs.Lexed.{line_of}
+use Rattle.ntriples.specs.Lexed.{Line, line_of}
 use Rattle.gathering.specs.Keys.{Holds}
 use Rattle.gathering.proofs.Gathered.{gathered-only, gathered-ascends}
-use Rattle.imports.specs.declared.Finding.{Finding}
-use Rattle.imports.specs.declared.Finding.TheVariants.{Clear, Fault}
+use Rattle.imports.specs.Results.{Finding, Clear, Fault}
 use Rattle.imports.specs.Lines.{on_first, lines_of, Statement, said_by, said, statements}
 use Rattle.imports.specs.Import.{known_by, fact_of, facts_of, line_refusal, fact_refusal, first_on, judged_by, judged, tabled, import_of}
 use Rattle.imports.specs.Collecting.{Collected}
 use Rattle.imports.proofs.Findings.{both-clear, all-clear, FirstFault, judged-fault}
 use Rattle.imports.proofs.Facts.{in_map}
+use Rattle.imports.proofs.Lines.{lines-few}
 
 -- ---- the facts
 
@@ -58,10 +53,9 @@ said-sound f (u ∷ v ∷ ss) s h e m = absurd (omega arith)
 
 one-said : (l : List ℕ) (v : Line) → length (said_by l v) ≤ 1
 unfolding said_by
-one-said l Outside = omega arith
-one-said l Unknown = omega arith
-one-said l Nothing = omega arith
-one-said l (Triple s p o) = omega arith
+one-said l (Err e) = omega arith
+one-said l (Ok None) = omega arith
+one-said l (Ok (Some t)) = omega arith
 
 all-formed : (fs : List Fact) → ((f : Fact) → Memᴰ f fs → T (well_formed f)) → T (all_formed fs)
 unfolding all_formed
@@ -152,7 +146,7 @@ either b = size (dec_lt 65536 (length b))
 
     found : length b ≤ 65536 → (f : Finding) → judged (lines_of b) ≡ f → Either b
     found h Clear e = number h e (dec_lt 1024 (length (facts_of (statements (lines_of b)))))
-    found h (Fault r place) e = bad r place (fault h e) (import-fault b h r place e)
+    found h (Err stop) e = bad stop.refusal stop.place (fault h e) (import-fault b h stop.refusal stop.place e)
 
     size : Dec (65536 < length b) → Either b
     size (yes p) = bad refusals.Statement 0 (large p) (import-large b p)
@@ -171,17 +165,6 @@ import-accepted b fs e = go (either b)
     go : Either b → Accepting b fs
     go (bad q p h z) = let w : refused q p ≡ accepted fs = sym z ∙ e in let k : ◌≡◌ {A = ℕ} 0 1 = cc in absurd (omega arith)
     go (good gs h z) = let w : accepted gs ≡ accepted fs = sym z ∙ e in let k : gs ≡ fs = cc in rw (← k) h
-
--- there are no more lines than bytes
-on-first : (x : ℕ) (ls : List (List ℕ)) → length (on_first x ls) ≤ suc (length ls)
-unfolding on_first
-on-first x [] = omega arith
-on-first x (l ∷ ls) = omega arith
-
-lines-few : (b : List ℕ) → length (lines_of b) ≤ length b
-unfolding lines_of
-lines-few [] = omega arith
-lines-few (x ∷ b) = by_cases (eqb x 10) (λ e. rw e (omega (arith, lines-few b))) (λ e. rw e (omega (arith, lines-few b, on-first x (lines_of b))))
 
 -- a refusal's place is a line, or 0
 pub import-place : (b : List ℕ) (r : Refusal) (place : ℕ) → import_of b ≡ refused r place → place ≤ 65536

@@ -3,46 +3,25 @@
 use mathlib.Core.Path.{◌≡◌, refl, sym, ap}
 use mathlib.Core.Bool.{false}
 use mathlib.Core.List.{List, [], ◌∷◌, Memᴰ}
-use Prim.Native.Nat.{ℕ, suc, ◌+◌, ◌≤◌, ◌<◌}
+use Prim.Native.Nat.{ℕ, suc, ◌≤◌, ◌<◌}
 use native.Mathlib.Omega.{arith}
 use lib.ListN.{length}
 use borrow.Author.Tests.{ne_eqb, lt-ltb, le-ltb}
 use Rattle.facts.specs.declared.Kind.TheVariants.{Name, Literal}
 use Rattle.facts.specs.declared.Fact.{Fact}
-use Rattle.facts.specs.declared.Verdict.{Verdict}
+use Rattle.facts.specs.Results.{Verdict}
 use Rattle.facts.specs.Terms.{kind_of}
 use Rattle.facts.specs.Facts.{named_subject, named_object, fault_of}
 use Rattle.facts.proofs.Terms.{by_cases}
-use Rattle.ntriples.specs.Lexed.{byte_at, line_of}
+use Rattle.ntriples.specs.Lexed.{line_of}
 use Rattle.ntriples.specs.Tokens.{Token}
-use Rattle.numbering.specs.Numbering.{has, place, is_literal, Known}
-use Rattle.numbering.specs.Vocabulary.{vocabulary, word_of, term_of}
+use Rattle.numbering.specs.Numbering.{has, is_literal, Known}
+use Rattle.numbering.specs.Vocabulary.{vocabulary, term_of}
 use Rattle.numbering.proofs.Terms.{Kinds}
 use Rattle.imports.specs.Lines.{lines_of, Statement, said, statements}
 use Rattle.imports.specs.Import.{known_by, fact_of, line_refusal, fact_refusal, first_on, or_else, judged_by, judged}
 use Rattle.imports.specs.Samples.{sample_of, sample_fact}
 use Rattle.imports.proofs.Sizes.{tokens-among, said-among, token-kinds}
-
--- ---- how it is found
-
--- the vocabulary's own number
-pub sample-word : (t : Token) → (word_of t ≡ 0 → ⊥) → word_of t ≡ sample_of t
-unfolding sample_of
-sample-word t h = by_cases (has t vocabulary) (λ e. rw e) (λ e. absurd (h (rw e)))
-
-other : (t : Token) → word_of t ≡ 0 → has t vocabulary ≡ false
-other t e = by_cases (has t vocabulary) (λ p. let z : 1 + place t vocabulary ≡ 0 = rw p at e in absurd (omega arith)) (λ p. p)
-
--- or by its first byte
-pub sample-literal : (t : Token) → word_of t ≡ 0 → byte_at t 0 ≡ 34 → 40000 ≡ sample_of t
-unfolding sample_of is_literal
-sample-literal [] e h = absurd (omega arith)
-sample-literal (b ∷ t) e h = rw (other (b ∷ t) e, h)
-
-pub sample-name : (t : Token) → word_of t ≡ 0 → (byte_at t 0 ≡ 34 → ⊥) → 6 ≡ sample_of t
-unfolding sample_of is_literal
-sample-name [] e h = rw (other [] e)
-sample-name (b ∷ t) e h = rw (other (b ∷ t) e, ne_eqb b 34 h)
 
 -- ---- faults ask for kinds
 

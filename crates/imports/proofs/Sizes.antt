@@ -11,11 +11,10 @@ use lib.ListN.{length, get_or, drop, length-append}
 use lib.Seq.{get_or-take, get_or-drop}
 use lib.Dec.{eqb}
 use Rattle.facts.proofs.Terms.{by_cases}
+use Rattle.std.specs.Prelude.{None, Some, Ok, Err}
 use Rattle.ntriples.specs.declared.Span.{Span}
-use Rattle.ntriples.specs.declared.Line.{Line}
-use Rattle.ntriples.specs.declared.Line.TheVariants.{Outside, Unknown, Nothing, Triple}
 use Rattle.ntriples.specs.Grammar.{joined}
-use Rattle.ntriples.specs.Lexed.{line_of}
+use Rattle.ntriples.specs.Lexed.{Line, line_of}
 use Rattle.ntriples.specs.Tokens.{Token, spanned}
 use Rattle.ntriples.proofs.Spans.{triple-spans, triple-bytes}
 use Rattle.numbering.specs.Numbering.{is_literal}
@@ -42,10 +41,9 @@ lines-bytes (b ∷ s) =
 -- seven bytes or more for each statement
 said-bytes : (l : List ℕ) (x : Line) → line_of l ≡ x → 7 * length (said_by l x) ≤ length l
 unfolding said_by
-said-bytes l Outside e = omega arith
-said-bytes l Unknown e = omega arith
-said-bytes l Nothing e = omega arith
-said-bytes l (Triple a b c) e = triple-bytes l a b c e
+said-bytes l (Err f) e = omega arith
+said-bytes l (Ok None) e = omega arith
+said-bytes l (Ok (Some t)) e = triple-bytes l t e
 
 statements-bytes : (ls : List (List ℕ)) → 7 * length (statements ls) ≤ length (joined ls)
 unfolding statements joined
@@ -68,13 +66,12 @@ iri-token l a h e = rw (get_or-take (a.to - a.from) (drop a.from l) 0 0 (omega a
 -- one literal at most for each statement
 said-literals : (l : List ℕ) (ss : List Statement) (x : Line) → line_of l ≡ x → literal_count (tokens ss) ≤ length ss → literal_count (tokens (said_by l x ++ ss)) ≤ length (said_by l x ++ ss)
 unfolding said_by tokens literal_count
-said-literals l ss Outside e h = h
-said-literals l ss Unknown e h = h
-said-literals l ss Nothing e h = h
-said-literals l ss (Triple a b c) e h =
-    let s = triple-spans l a b c e in
-    rw (iri-token l a s.subject s.subject-first, iri-token l b s.predicate s.predicate-first)
-    (by_cases (is_literal (spanned l c)) (λ p. rw p (omega arith)) (λ p. rw p (omega arith)))
+said-literals l ss (Err f) e h = h
+said-literals l ss (Ok None) e h = h
+said-literals l ss (Ok (Some t)) e h =
+    let s = triple-spans l t e in
+    rw (iri-token l t.subject s.subject s.subject-first, iri-token l t.predicate s.predicate s.predicate-first)
+    (by_cases (is_literal (spanned l t.object)) (λ p. rw p (omega arith)) (λ p. rw p (omega arith)))
 
 statements-literals : (ls : List (List ℕ)) → literal_count (tokens (statements ls)) ≤ length (statements ls)
 unfolding statements tokens literal_count

@@ -16,7 +16,7 @@ use Rattle.table.specs.Tables.{ascending}
 use Rattle.gathering.specs.Gathered.{gathered_with}
 use Rattle.gathering.specs.Keys.{Holds}
 use Rattle.gathering.proofs.Gathered.{with-length}
-use Rattle.imports.specs.declared.Progress.{Progress}
+use Rattle.numbering.specs.declared.Counts.{Counts}
 use Rattle.imports.specs.Lines.{lines_of, Statement, said, statements, tokens, line_end}
 use Rattle.imports.specs.Import.{known_by, fact_of, facts_of}
 use Rattle.imports.specs.Collecting.{Gathers, begun, Underway, Collected}
@@ -28,7 +28,7 @@ none-known : (t : Token) → knows unknown t ≡ true → ⊥
 unfolding knows has
 none-known t e = by_cases (is_literal t) (λ p. true≢false (sym (rw p at e))) (λ p. true≢false (sym (rw p at e)))
 
-empty-index : (input items : List ℕ) → Kept input items begun.counts (known_by [])
+empty-index : (input items : List ℕ) → Kept input items begun (known_by [])
 unfolding known_after tokens
 empty-index input items =
     record {
@@ -40,10 +40,10 @@ empty-index input items =
       all = λ t e. absurd (none-known t e);
     }
 
-pub underway-begins : (input items keys : List ℕ) → length input ≤ 65536 → length items ≡ 3075 → length keys ≡ 1025 → Underway input items keys begun 0
+pub underway-begins : (input items : List ℕ) (c : Counts) (keys : List ℕ) (n : ℕ) → length input ≤ 65536 → length items ≡ 3075 → length keys ≡ 1025 → c ≡ begun → n ≡ 0 → Underway input items c keys n 0
 unfolding gathered_with ascending
-underway-begins input items keys few room places =
-    record {
+underway-begins input items c keys n few room places e z =
+    rw (e, z) (record {
       done = [];
       behind = refl;
       gathers =
@@ -56,7 +56,7 @@ underway-begins input items keys few room places =
             tokens = omega arith;
           };
       more = omega arith;
-    }
+    })
 
 -- later statements take no fact away
 facts-grow : (ss us : List Statement) → length (facts_of ss) ≤ length (facts_of (ss ++ us))
@@ -69,25 +69,25 @@ facts-grow ss (s ∷ us) =
 
 -- ---- a turn: the line from `at` to `end`
 
-module _ (input items keys items' keys' : List ℕ) (g r : Progress) (at end : ℕ) (u : Underway input items keys g at) (h : at < length input) (e : end ≡ line_end input at)
-    (q : Gathers input items' keys' r (u.done ++ said (part input at end))) where
+module _ (input items : List ℕ) (c : Counts) (keys : List ℕ) (n : ℕ) (items' : List ℕ) (c' : Counts) (keys' : List ℕ) (n' at end : ℕ) (u : Underway input items c keys n at) (h : at < length input) (e : end ≡ line_end input at)
+    (q : Gathers input items' c' keys' n' (u.done ++ said (part input at end))) where
   then-behind : statements (lines_of input) ≡ (u.done ++ said (part input at end)) ++ statements (lines_of (drop (end + 1) input))
   then-behind =
       let n : statements (lines_of (drop at input)) ≡ said (part input at end) ++ statements (lines_of (drop (end + 1) input)) = rw e (statements-next input at h) in
       u.behind ∙ ap (λ (x : List Statement). u.done ++ x) n ∙ sym (append_assoc u.done (said (part input at end)) (statements (lines_of (drop (end + 1) input))))
 
-  pub underway-more : (r.facts ≡ 1025 → ⊥) → Underway input items' keys' r (end + 1)
-  underway-more n = record { done = u.done ++ said (part input at end); behind = then-behind; gathers = q; more = omega (arith, q.held.room, q.places, n) }
+  pub underway-more : (n' ≡ 1025 → ⊥) → Underway input items' c' keys' n' (end + 1)
+  underway-more less = record { done = u.done ++ said (part input at end); behind = then-behind; gathers = q; more = omega (arith, q.held.room, q.places, less) }
 
   -- 1,025 facts of some statements: there are more than 1,024 of all
-  pub underway-crowded : r.facts ≡ 1025 → Collected (statements (lines_of input)) keys' 1025
-  underway-crowded c =
+  pub underway-crowded : n' ≡ 1025 → Collected (statements (lines_of input)) keys' n'
+  underway-crowded z =
       let m : length (facts_of (u.done ++ said (part input at end))) ≤ length (facts_of (statements (lines_of input))) = rw then-behind (facts-grow (u.done ++ said (part input at end)) (statements (lines_of (drop (end + 1) input)))) in
-      record { all = λ few. absurd (omega (arith, q.held.count)); crowd = λ many. refl }
+      record { all = λ few. absurd (omega (arith, q.held.count)); crowd = λ many. z }
 
 -- the end of the input: all statements are gathered
-pub underway-ends : (input items keys : List ℕ) (g : Progress) (at : ℕ) → Underway input items keys g at → length input ≤ at → Collected (statements (lines_of input)) keys g.facts
-underway-ends input items keys g at u h =
+pub underway-ends : (input items : List ℕ) (c : Counts) (keys : List ℕ) (n at : ℕ) → Underway input items c keys n at → length input ≤ at → Collected (statements (lines_of input)) keys n
+underway-ends input items c keys n at u h =
     let b : statements (lines_of input) ≡ u.done = u.behind ∙ ap (λ (x : List Statement). u.done ++ x) (statements-none input at h) ∙ append-nil u.done in
-    let q : Holds keys g.facts (facts_of (statements (lines_of input))) = rw b u.gathers.held in
+    let q : Holds keys n (facts_of (statements (lines_of input))) = rw b u.gathers.held in
     record { all = λ few. q; crowd = λ many. absurd (omega (arith, q.count, u.more)) }

@@ -1,20 +1,17 @@
 -- The import (document 02, Point 3): from the input to a table, or a refusal with its place.
 -- Assumes nothing.
-use Rattle.std.specs.Prelude.{cond, List, [], ◌∷◌, map, ℕ, suc, length, leb}
+use Rattle.std.specs.Prelude.{Err, cond, List, [], ◌∷◌, map, ℕ, suc, length, leb, Ok}
 use Rattle.facts.specs.declared.Fact.{Fact}
 use Rattle.facts.specs.declared.Refusal.TheVariants as refusals
-use Rattle.facts.specs.declared.Verdict.{Verdict}
-use Rattle.facts.specs.declared.Verdict.TheVariants.{Sound, Faulty}
+use Rattle.facts.specs.Results.{Verdict, Sound, Faulty}
 use Rattle.facts.specs.Facts.{fact, fault_of}
 use Rattle.table.specs.Tables.{Table, accepted, refused}
-use Rattle.ntriples.specs.declared.Line.{Line}
-use Rattle.ntriples.specs.declared.Line.TheVariants.{Outside, Unknown, Nothing, Triple}
-use Rattle.ntriples.specs.Lexed.{line_of}
+use Rattle.ntriples.specs.declared.LineFault.TheVariants.{Outside, Unknown}
+use Rattle.ntriples.specs.Lexed.{Line, line_of}
 use Rattle.numbering.specs.Numbering.{Known}
 use Rattle.numbering.specs.Vocabulary.{term_of, known}
 use Rattle.gathering.specs.Gathered.{gathered}
-use Rattle.imports.specs.declared.Finding.{Finding}
-use Rattle.imports.specs.declared.Finding.TheVariants.{Clear, Fault}
+use Rattle.imports.specs.Results.{Finding, Clear, Fault}
 use Rattle.imports.specs.Lines.{lines_of, Statement, said, statements, tokens}
 
 -- ---- facts
@@ -35,10 +32,9 @@ facts_of ss = gathered (map (fact_of (known_by ss)) ss)
 
 -- 13 or 14, which a line earns
 unfoldable pub line_refusal : Line → Verdict
-line_refusal Outside = Faulty refusals.Statement
-line_refusal Unknown = Faulty refusals.UnknownNode
-line_refusal Nothing = Sound
-line_refusal (Triple s p o) = Sound
+line_refusal (Err Outside) = Faulty refusals.Statement
+line_refusal (Err Unknown) = Faulty refusals.UnknownNode
+line_refusal (Ok t) = Sound
 
 -- 5 or 12, which the fact of a line's statement earns
 unfoldable pub fact_refusal : (Statement → Fact) → List Statement → Verdict
@@ -59,7 +55,7 @@ first_on judge i (l ∷ ls) = found_on (judge l) i (first_on judge (suc i) ls)
 -- what is found, or else what is found next
 unfoldable pub or_else : Finding → Finding → Finding
 or_else Clear g = g
-or_else (Fault r place) g = Fault r place
+or_else (Err stop) g = Fault stop.refusal stop.place
 
 -- on all lines 13 and 14; then 5 and 12 of their facts, by what f makes of a statement
 unfoldable pub judged_by : (Statement → Fact) → List (List ℕ) → Finding
@@ -72,7 +68,7 @@ judged ls = judged_by (fact_of (known_by (statements ls))) ls
 -- the finding, or else the facts, where they are not more than 1,024
 unfoldable pub tabled : Finding → List Fact → Table
 tabled Clear fs = cond (leb (length fs) 1024) (accepted fs) (refused refusals.Crowd 0)
-tabled (Fault r place) fs = refused r place
+tabled (Err stop) fs = refused stop.refusal stop.place
 
 -- the table that an input of at most 65,536 bytes is
 unfoldable pub import_of : List ℕ → Table

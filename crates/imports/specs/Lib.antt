@@ -1,3 +1,4 @@
+pub mod Results
 pub mod Lines
 pub mod Import
 pub mod Samples

@@ -1,10 +1,9 @@
 -- The lines of an input and the statements on them (document 02, Point 3: "Lines end with byte 10, which the last may lack").
 -- Assumes nothing.
-use Rattle.std.specs.Prelude.{◌≡◌, ◌⊎◌, cond, ℕ, suc, ◌+◌, drop, eqb}
+use Rattle.std.specs.Prelude.{◌≡◌, ◌⊎◌, cond, not, ℕ, ◌+◌, drop, eqb, None, Some, Ok, Err}
+use Rattle.std.specs.List.{prefix_len}
 use mathlib.Core.List.{List, [], ◌∷◌, ◌++◌, Memᴰ}
-use Rattle.ntriples.specs.declared.Line.{Line}
-use Rattle.ntriples.specs.declared.Line.TheVariants.{Outside, Unknown, Nothing, Triple}
-use Rattle.ntriples.specs.Lexed.{line_of}
+use Rattle.ntriples.specs.Lexed.{Line, line_of}
 use Rattle.ntriples.specs.Tokens.{Token, spanned}
 
 -- a byte before the first line
@@ -40,10 +39,9 @@ pub record Statement : Type 0 where
 
 -- the statement that a line makes, if it makes one
 unfoldable pub said_by : List ℕ → Line → List Statement
-said_by l Outside = []
-said_by l Unknown = []
-said_by l Nothing = []
-said_by l (Triple s p o) = record { subject = spanned l s; predicate = spanned l p; object = spanned l o } ∷ []
+said_by l (Err e) = []
+said_by l (Ok None) = []
+said_by l (Ok (Some t)) = record { subject = spanned l t.subject; predicate = spanned l t.predicate; object = spanned l t.object } ∷ []
 
 abbrev pub said : List ℕ → List Statement
 said l = said_by l (line_of l)
@@ -63,8 +61,7 @@ tokens (s ∷ ss) = s.subject ∷ s.predicate ∷ s.object ∷ tokens ss
 
 -- the bytes of the first line
 unfoldable pub first_length : List ℕ → ℕ
-first_length [] = 0
-first_length (b ∷ s) = cond (eqb b 10) 0 (suc (first_length s))
+first_length s = prefix_len (λ b. not (eqb b 10)) s
 
 -- where the line ends that begins at a place
 abbrev pub line_end : List ℕ → ℕ → ℕ

@@ -2,7 +2,7 @@
 #![tactic(auto)]
 
 ghost use Rattle.std.specs.Prelude.{◌≡◌};
-ghost use Rattle.facts.specs.Terms.{kind_of, is_no_term, is_vocabulary, is_name, is_literal, is_blank};
+ghost use Rattle.facts.specs.Terms.{kind_of, is_no_term};
 
 use facts::Kind;
 
@@ -15,94 +15,24 @@ pub const BLANK_FIRST: u32 = 60000;
 
 pub const TERM_LAST: u32 = 65535;
 
-// The kind of a number.
+// The kind of a number. No `From`: definitions and papers name it, and `facts` has types and laws alone.
+#[tactic(auto, unfolding(facts::specs::Terms::kind_of))]
 pub fn kind_of(n: u32) -> Kind
     ensures { result ≡ kind_of n }
 {
-    if n == 0 {
-        return Kind::NoTerm;
+    match n {
+        0 => Kind::NoTerm,
+        1..NAME_FIRST => Kind::Vocabulary,
+        NAME_FIRST..LITERAL_FIRST => Kind::Name,
+        LITERAL_FIRST..BLANK_FIRST => Kind::Literal,
+        BLANK_FIRST..=TERM_LAST => Kind::BlankNode,
+        _ => Kind::Beyond,
     }
-    if n < NAME_FIRST {
-        return Kind::Vocabulary;
-    }
-    if n < LITERAL_FIRST {
-        return Kind::Name;
-    }
-    if n < BLANK_FIRST {
-        return Kind::Literal;
-    }
-    if n <= TERM_LAST {
-        return Kind::BlankNode;
-    }
-    Kind::Beyond
 }
 
-// 0, or above 16 bits.
+// 0, or above 16 bits: two kinds, so no `==` says it.
 pub fn is_no_term(k: Kind) -> bool
     ensures { result ≡ is_no_term k }
 {
-    match k {
-        Kind::NoTerm => true,
-        Kind::Beyond => true,
-        Kind::Vocabulary => false,
-        Kind::Name => false,
-        Kind::Literal => false,
-        Kind::BlankNode => false,
-    }
-}
-
-// A blank node.
-pub fn is_blank(k: Kind) -> bool
-    ensures { result ≡ is_blank k }
-{
-    match k {
-        Kind::BlankNode => true,
-        Kind::NoTerm => false,
-        Kind::Vocabulary => false,
-        Kind::Name => false,
-        Kind::Literal => false,
-        Kind::Beyond => false,
-    }
-}
-
-// One of the vocabulary.
-pub fn is_vocabulary(k: Kind) -> bool
-    ensures { result ≡ is_vocabulary k }
-{
-    match k {
-        Kind::Vocabulary => true,
-        Kind::NoTerm => false,
-        Kind::Name => false,
-        Kind::Literal => false,
-        Kind::BlankNode => false,
-        Kind::Beyond => false,
-    }
-}
-
-// A literal.
-pub fn is_literal(k: Kind) -> bool
-    ensures { result ≡ is_literal k }
-{
-    match k {
-        Kind::Literal => true,
-        Kind::NoTerm => false,
-        Kind::Vocabulary => false,
-        Kind::Name => false,
-        Kind::BlankNode => false,
-        Kind::Beyond => false,
-    }
-}
-
-// A name.
-pub fn is_name_kind(k: Kind) -> bool
-    ensures { result ≡ is_name k }
-{
-    match k {
-        Kind::Name => true,
-        Kind::NoTerm => false,
-        Kind::Vocabulary => false,
-        Kind::Literal => false,
-        Kind::BlankNode => false,
-        Kind::Beyond => false,
-    }
+    matches!(k, Kind::NoTerm | Kind::Beyond)
 }

@@ -4,7 +4,7 @@
 ghost use Rattle.std.specs.Prelude.{◌≡◌, ◌+◌, ◌≤◌, length};
 ghost use Rattle.columns.specs.Lines.{width, laid_out};
 
-use columns::{LINE_END, NO_FIELD};
+use columns::LINE_END;
 use field_reader::field_at;
 
 // From a place on stand k fields and byte 10.
@@ -12,14 +12,5 @@ pub fn is_laid_out(k: usize, s: &[u8], at: usize) -> bool
     requires { at + width k ≤ length s.now }
     ensures { result ≡ laid_out k s.now at }
 {
-    let mut i = 0;
-    let mut here = at;
-    while i < k {
-        if field_at(s, here) == NO_FIELD {
-            return false;
-        }
-        here += 5;
-        i += 1;
-    }
-    s[here] == LINE_END
+    (0..k).all(|i| field_at(s, at + 5 * i).is_some()) && s[at + 5 * k] == LINE_END
 }

@@ -1,89 +1,70 @@
 // A line of N-Triples, taken apart (document 02, Point 3).
 #![tactic(auto)]
 
-ghost use Rattle.std.specs.Prelude.{◌≡◌};
-ghost use Rattle.ntriples.specs.Lexed.{ends, stops, from_object, from_predicate, from_subject, line_of};
+ghost use Rattle.std.specs.Prelude.{◌≡◌, None, Some, MatchResult};
+ghost use Rattle.ntriples.specs.declared.LineFault.TheVariants.{Outside};
+ghost use Rattle.ntriples.specs.Lexed.{ends, stops, from_subject, line_of};
 
 use byte_runs::{byte_at, run_end};
-use ntriples::{Class, HASH, Line, STOP, Span, UNDERSCORE};
+use ntriples::{Class, HASH, LineFault, STOP, Span, Triple, UNDERSCORE};
 use token_ends::{iri_end, object_end, subject_end};
 
 // From a place on nothing stands, or a comment.
+#[tactic(auto, unfolding(ntriples::specs::Lexed::ends))]
 fn is_end(s: &[u8], at: usize) -> bool
     ensures { result ≡ ends s.now at }
 {
-    if s.len() <= at {
-        return true;
-    }
-    if byte_at(s, at) != HASH {
-        return false;
-    }
-    s.len() <= run_end(Class::Comment, s, at + 1)
+    s.len() <= at || byte_at(s, at) == HASH && s.len() <= run_end(Class::Comment, s, at + 1)
 }
 
 // A full stop at a place, and then the end.
+#[tactic(auto, unfolding(ntriples::specs::Lexed::stops))]
 fn is_stop(s: &[u8], at: usize) -> bool
     ensures { result ≡ stops s.now at }
 {
-    if byte_at(s, at) != STOP {
-        return false;
-    }
-    is_end(s, run_end(Class::White, s, at + 1))
+    byte_at(s, at) == STOP && is_end(s, run_end(Class::White, s, at + 1))
 }
 
-// The line from its object on.
-fn from_object(s: &[u8], subject: Span, predicate: Span, at: usize) -> Line
-    ensures { result ≡ from_object s.now subject predicate at }
+// The token that begins at a place, where it ends.
+fn token(from: usize, end: Option<usize>) -> Result<Span, LineFault>
+    ensures { MatchResult result (λ token. (token.from ≡ from) × (end ≡ Some token.to)) (λ fault. (fault ≡ Outside) × (end ≡ None)) }
 {
-    let to = object_end(s, at);
-    if to == 0 {
-        return Line::Outside;
-    }
-    if !is_stop(s, run_end(Class::White, s, to)) {
-        return Line::Outside;
-    }
-    if (byte_at(s, subject.from) == UNDERSCORE) | (byte_at(s, at) == UNDERSCORE) {
-        return Line::Unknown;
-    }
-    let object = Span { from: at, to: to };
-    Line::Triple {
-        subject: subject,
-        predicate: predicate,
-        object: object,
-    }
+    let to = end.ok_or(LineFault::Outside)?;
+    Ok(Span { from, to })
 }
 
-// The line from its predicate on.
-fn from_predicate(s: &[u8], subject: Span, at: usize) -> Line
-    ensures { result ≡ from_predicate s.now subject at }
-{
-    let to = iri_end(s, at);
-    if to == 0 {
-        return Line::Outside;
-    }
-    let predicate = Span { from: at, to: to };
-    from_object(s, subject, predicate, run_end(Class::White, s, to))
-}
-
-// The line from its subject on.
-fn from_subject(s: &[u8], at: usize) -> Line
+// The statement whose subject begins at a place.
+#[tactic(auto, unfolding(ntriples::specs::Lexed::from_subject, ntriples::specs::Lexed::from_predicate, ntriples::specs::Lexed::from_object))]
+fn statement(s: &[u8], at: usize) -> Result<Option<Triple>, LineFault>
     ensures { result ≡ from_subject s.now at }
 {
-    let to = subject_end(s, at);
-    if to == 0 {
-        return Line::Outside;
+    let subject = token(at, subject_end(s, at))?;
+    let at = run_end(Class::White, s, subject.to);
+    let predicate = token(at, iri_end(s, at))?;
+    let at = run_end(Class::White, s, predicate.to);
+    let object = token(at, object_end(s, at))?;
+    if !is_stop(s, run_end(Class::White, s, object.to)) {
+        return Err(LineFault::Outside);
     }
-    let subject = Span { from: at, to: to };
-    from_predicate(s, subject, run_end(Class::White, s, to))
+    if (byte_at(s, subject.from) == UNDERSCORE) | (byte_at(s, object.from) == UNDERSCORE) {
+        return Err(LineFault::Unknown);
+    }
+    Ok(Some(Triple {
+        subject,
+        predicate,
+        object,
+    }))
 }
 
 // What a line says.
-pub fn parse(s: &[u8]) -> Line
+#[tactic(auto, unfolding(ntriples::specs::Lexed::line_of))]
+pub fn parse(s: &[u8]) -> Result<Option<Triple>, LineFault>
     ensures { result ≡ line_of s.now }
 {
     let at = run_end(Class::White, s, 0);
     if is_end(s, at) {
-        return Line::Nothing;
+        Ok(None)
+    } else {
+        statement(s, at)
     }
-    from_subject(s, at)
 }

@@ -9,13 +9,13 @@ use native.Mathlib.Omega.{arith}
 use lib.ListN.{length, drop}
 use lib.Dec.{eqb}
 use borrow.Author.Tests.{eqb-false}
+use Rattle.std.specs.Prelude.{None, Some, Ok, Err}
 use Rattle.ntriples.specs.declared.Class.TheVariants.{White}
 use Rattle.ntriples.specs.declared.Span.{Span}
-use Rattle.ntriples.specs.declared.Line.{Line}
-use Rattle.ntriples.specs.declared.Line.TheVariants.{Outside, Unknown, Nothing, Triple}
+use Rattle.ntriples.specs.declared.LineFault.TheVariants.{Outside, Unknown}
 use Rattle.ntriples.specs.Classes.{belongs}
 use Rattle.ntriples.specs.Grammar.{or, Of, iri, literal, blank, white, rest, Silent}
-use Rattle.ntriples.specs.Lexed.{byte_at, run_end, ends, is_blank, line_of}
+use Rattle.ntriples.specs.Lexed.{byte_at, run_end, ends, is_blank, Line, triple, line_of}
 use Rattle.ntriples.specs.Outcomes.{NamesBlank, States, Foreign, ReadAs, Outcomes}
 use Rattle.ntriples.specs.Tokens.{Token, spanned}
 use Rattle.ntriples.proofs.Lexed.{inside, never}
@@ -29,7 +29,7 @@ use Rattle.ntriples.proofs.Told.{Told, told-read, told-found}
 
 module _ {l : List ℕ} {a b c : Span} {s p o : Token} (t : Told l a b c s p o) where
   -- such a line is read as its parts are
-  told_line : line_of l ≡ cond (blanks l a c) Unknown (Triple a b c)
+  told_line : line_of l ≡ cond (blanks l a c) (Err Unknown) (Ok (Some (triple a b c)))
   told_line =
       let at = a.from in
       let x = t.subject-stands in
@@ -71,8 +71,8 @@ module _ {l : List ℕ} {a b c : Span} {s p o : Token} (t : Told l a b c s p o) 
 
 read-states : (l : List ℕ) (s p o : Token) → ReadAs l s p o → States l s p o
 read-states l s p o r =
-    let q : Parsed l (Triple r.a r.b r.c) = rw r.line at (parsed l) in
-    let (s', p', o', t) = told-read l r.a r.b r.c q.0 in
+    let q : Parsed l (Ok (Some r.places)) = rw r.line at (parsed l) in
+    let (s', p', o', t) = told-read l r.places.subject r.places.predicate r.places.object q.0 in
     let e : s' ≡ s = sym (told-subject t) ∙ r.subject in
     let f : p' ≡ p = sym (told-predicate t) ∙ r.predicate in
     let g : o' ≡ o = sym (told-object t) ∙ r.object in
@@ -85,28 +85,28 @@ read-states l s p o r =
 states-read : (l : List ℕ) (s p o : Token) → States l s p o → ReadAs l s p o
 states-read l s p o h =
     let (a, b, c, t) = told-found l s p o h.says in
-    record { a = a; b = b; c = c; line = told_line t ∙ rw (none_named t h.subject h.object); subject = told-subject t; predicate = told-predicate t; object = told-object t }
+    record { places = triple a b c; line = told_line t ∙ rw (none_named t h.subject h.object); subject = told-subject t; predicate = told-predicate t; object = told-object t }
 
 -- ---- a statement that names a blank node
 
-unknown-names : (l : List ℕ) → line_of l ≡ Unknown → NamesBlank l
+unknown-names : (l : List ℕ) → line_of l ≡ Err Unknown → NamesBlank l
 unknown-names l e =
     let (a, b, c, q, f) = rw e at (parsed l) in
     let (s, p, o, t) = told-read l a b c q in
     (s, p, o, t.says, named_blank t f)
 
-names-unknown : (l : List ℕ) → NamesBlank l → line_of l ≡ Unknown
+names-unknown : (l : List ℕ) → NamesBlank l → line_of l ≡ Err Unknown
 names-unknown l (s, p, o, h, n) = let (a, b, c, t) = told-found l s p o h in told_line t ∙ rw (blank-named t n)
 
 -- ---- nothing
 
-nothing-silent : (l : List ℕ) → line_of l ≡ Nothing → Silent l
+nothing-silent : (l : List ℕ) → line_of l ≡ Ok None → Silent l
 nothing-silent l e =
-    let q : Parsed l Nothing = rw e at (parsed l) in
+    let q : Parsed l (Ok None) = rw e at (parsed l) in
     let x = run-read White l 0 in
     record { w = x.token; r = drop (run_end White l 0) l; line = x.there; is_white = x.of; is-rest = ends_read l (run_end White l 0) q }
 
-silent-nothing : (l : List ℕ) → Silent l → line_of l ≡ Nothing
+silent-nothing : (l : List ℕ) → Silent l → line_of l ≡ Ok None
 unfolding belongs
 silent-nothing l h =
     let (m, x, n, e) = front white l h.w h.r 0 h.line h.is_white in
@@ -115,27 +115,30 @@ silent-nothing l h =
 
 -- ---- and neither of these
 
-outside-foreign : (l : List ℕ) → line_of l ≡ Outside → Foreign l
+outside-foreign : (l : List ℕ) → line_of l ≡ Err Outside → Foreign l
 outside-foreign l e =
     record {
       no-statement = λ s p o h. let (a, b, c, t) = told-found l s p o h in other (blanks l a c) a b c (sym (told_line t) ∙ e);
-      not-silent = λ h. let f : Nothing ≡ Outside = sym (silent-nothing l h) ∙ e in let z : ◌≡◌ {A = ℕ} 0 1 = cc in omega arith;
+      not-silent = λ h. let f : Ok None ≡ Err Outside = sym (silent-nothing l h) ∙ e in let z : ◌≡◌ {A = ℕ} 0 1 = cc in omega arith;
     }
   where
-    other : (v : Bool) (a b c : Span) → cond v Unknown (Triple a b c) ≡ Outside → ⊥
+    other : (v : Bool) (a b c : Span) → cond v (Err Unknown) (Ok (Some (triple a b c))) ≡ Err Outside → ⊥
     other true a b c f = let z : ◌≡◌ {A = ℕ} 0 1 = cc in omega arith
     other false a b c f = let z : ◌≡◌ {A = ℕ} 0 1 = cc in omega arith
 
-foreign-outside : (l : List ℕ) → Foreign l → line_of l ≡ Outside
+foreign-outside : (l : List ℕ) → Foreign l → line_of l ≡ Err Outside
 foreign-outside l h = go (line_of l) refl
   where
-    go : (v : Line) → line_of l ≡ v → v ≡ Outside
-    go Outside e = refl
-    go Unknown e = let (s, p, o, k, n) = unknown-names l e in absurd (h.no-statement s p o k)
-    go Nothing e = absurd (h.not-silent (nothing-silent l e))
-    go (Triple a b c) e =
+    go : (v : Line) → line_of l ≡ v → v ≡ Err Outside
+    go (Err Outside) e = refl
+    go (Err Unknown) e = let (s, p, o, k, n) = unknown-names l e in absurd (h.no-statement s p o k)
+    go (Ok None) e = absurd (h.not-silent (nothing-silent l e))
+    go (Ok (Some t)) e =
+        let a = t.subject in
+        let b = t.predicate in
+        let c = t.object in
         absurd (h.no-statement (spanned l a) (spanned l b) (spanned l c)
-        (read-states l (spanned l a) (spanned l b) (spanned l c) (record { a = a; b = b; c = c; line = e; subject = refl; predicate = refl; object = refl })).says)
+        (read-states l (spanned l a) (spanned l b) (spanned l c) (record { places = t; line = e; subject = refl; predicate = refl; object = refl })).says)
 
 pub outcomes : (l : List ℕ) → Outcomes l
 outcomes l = record {

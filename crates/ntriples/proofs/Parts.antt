@@ -7,11 +7,11 @@ use Prim.Native.Nat.{ℕ}
 use lib.Dec.{eqb}
 use borrow.Author.Tests.{eqb-true, eqb-false}
 use Rattle.facts.proofs.Terms.{by_cases}
+use Rattle.std.specs.Prelude.{None, Some, Ok, Err}
 use Rattle.ntriples.specs.declared.Class.TheVariants.{White}
 use Rattle.ntriples.specs.declared.Span.{Span}
-use Rattle.ntriples.specs.declared.Line.{Line}
-use Rattle.ntriples.specs.declared.Line.TheVariants.{Outside, Unknown, Nothing, Triple}
-use Rattle.ntriples.specs.Lexed.{run_end, iri_end, subject_end, object_end, ends, stops, span, is_blank, from_object, from_predicate, from_subject, line_of}
+use Rattle.ntriples.specs.declared.LineFault.TheVariants.{Outside, Unknown}
+use Rattle.ntriples.specs.Lexed.{run_end, iri_end, subject_end, object_end, ends, stops, span, is_blank, Line, triple, from_object, from_predicate, from_subject, line_of}
 use Rattle.ntriples.proofs.Lines.{object-none, object-unstopped, object-unknown, object-triple, predicate-none, predicate-some, subject-none, subject-some, line-nothing, line-some}
 
 -- the subject, the predicate and the object of a line, each behind white space, and the full stop
@@ -32,10 +32,10 @@ abbrev pub blanks : List ℕ → Span → Span → Bool
 blanks l a c = is_blank l a.from || is_blank l c.from
 
 abbrev pub Parsed : List ℕ → Line → Type 0
-Parsed l Outside = Unit {0}
-Parsed l Unknown = (a : Span) × (b : Span) × (c : Span) × Parts l a b c × (blanks l a c ≡ true)
-Parsed l Nothing = ends l (run_end White l 0) ≡ true
-Parsed l (Triple a b c) = Parts l a b c × (blanks l a c ≡ false)
+Parsed l (Err Outside) = Unit {0}
+Parsed l (Err Unknown) = (a : Span) × (b : Span) × (c : Span) × Parts l a b c × (blanks l a c ≡ true)
+Parsed l (Ok None) = ends l (run_end White l 0) ≡ true
+Parsed l (Ok (Some t)) = Parts l t.subject t.predicate t.object × (blanks l t.subject t.object ≡ false)
 
 from-object-on : (l : List ℕ) (a b : Span) → ((c : Span) → c.from ≡ run_end White l b.to → c.to ≡ object_end l c.from → (c.to ≡ 0 → ⊥) → stops l (run_end White l c.to) ≡ true → Parts l a b c)
     → Parsed l (from_object l a b (run_end White l b.to))
@@ -91,7 +91,7 @@ parsed l =
         (λ e. let n = eqb-false to 0 e in rw (← subject-some l at to refl n) (predicate (span at to) refl refl n))
 
 -- and so the line is read, where it does not end before its subject
-pub parts-line : (l : List ℕ) (a b c : Span) → Parts l a b c → ends l a.from ≡ false → line_of l ≡ cond (blanks l a c) Unknown (Triple a b c)
+pub parts-line : (l : List ℕ) (a b c : Span) → Parts l a b c → ends l a.from ≡ false → line_of l ≡ cond (blanks l a c) (Err Unknown) (Ok (Some (triple a b c)))
 parts-line l a b c p e =
     sym (line-some l (rw (← p.from-subject) e))
     ∙ ap (from_subject l) (sym p.from-subject) ∙ sym (subject-some l a.from a.to p.subject p.has-subject)

@@ -8,12 +8,14 @@ use Prim.Native.Nat.{ℕ, ◌+◌, ◌≤◌, ◌<◌}
 use native.Mathlib.Omega.{arith}
 use lib.ListN.{length, get_or}
 use Rattle.facts.proofs.Terms.{neither}
+use Rattle.std.specs.Prelude.{Some, Ok}
 use Rattle.ntriples.specs.declared.Class.TheVariants.{White}
 use Rattle.ntriples.specs.declared.Span.{Span}
-use Rattle.ntriples.specs.declared.Line.TheVariants.{Triple}
+use Rattle.ntriples.specs.declared.Triple.{Triple}
 use Rattle.ntriples.specs.Grammar.{Of, iri, literal, subject, object}
 use Rattle.ntriples.specs.Lexed.{byte_at, run_end, is_blank, line_of}
-use Rattle.ntriples.proofs.Lexed.{any-default, sits, never}
+use Rattle.std.proofs.lemmas.List.{get_or_default}
+use Rattle.ntriples.proofs.Lexed.{sits, never}
 use Rattle.ntriples.proofs.Stands.{Stands, stands-as}
 use Rattle.ntriples.proofs.Runs.{run-read}
 use Rattle.ntriples.proofs.Nodes.{iri-opens, literal-opens, subject-kind, object-kind}
@@ -35,7 +37,7 @@ pub record Spans (l : List ℕ) (a b c : Span) : Type 0 where
 
 -- a first byte, whatever stands behind the end
 first : (l : List ℕ) (at b : ℕ) → byte_at l at ≡ b → (b ≡ 10 → ⊥) → get_or l at 0 ≡ b
-first l at b e h = any-default l at 0 10 (sits l at b e h) ∙ e
+first l at b e h = get_or_default l at 0 10 (sits l at b e h) ∙ e
 
 -- a subject that is no blank node is an IRI, and an object an IRI or a literal
 subject-named : {l : List ℕ} {at to : ℕ} → Stands subject l at to → is_blank l at ≡ false → Stands iri l at to
@@ -65,9 +67,9 @@ spans l a b c q e =
       object-first = ⊎_elim (λ o. inl (first l c.from 60 (iri-opens o).0 (omega arith))) (λ o. inr (first l c.from 34 (literal-opens o).0 (omega arith))) z;
     }
 
-pub triple-spans : (l : List ℕ) (a b c : Span) → line_of l ≡ Triple a b c → Spans l a b c
-triple-spans l a b c e = let p : Parsed l (Triple a b c) = rw e at (parsed l) in spans l a b c p.0 p.1
+pub triple-spans : (l : List ℕ) (t : Triple) → line_of l ≡ Ok (Some t) → Spans l t.subject t.predicate t.object
+triple-spans l t e = let p : Parsed l (Ok (Some t)) = rw e at (parsed l) in spans l t.subject t.predicate t.object p.0 p.1
 
 -- so a statement has seven bytes or more
-pub triple-bytes : (l : List ℕ) (a b c : Span) → line_of l ≡ Triple a b c → 7 ≤ length l
-triple-bytes l a b c e = let s = triple-spans l a b c e in omega arith
+pub triple-bytes : (l : List ℕ) (t : Triple) → line_of l ≡ Ok (Some t) → 7 ≤ length l
+triple-bytes l t e = let s = triple-spans l t e in omega arith

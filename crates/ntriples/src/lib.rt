@@ -1,6 +1,11 @@
 // A line of N-Triples, taken apart (document 02, Point 3): types, definitions and laws.
 #![tactic(auto)]
 
+ghost use Rattle.std.specs.Prelude.{◌≡◌};
+ghost use Rattle.ntriples.specs.Faults.{refusal_of};
+
+use facts::Refusal;
+
 // The bytes with a meaning of their own: byte 10, " # - . : < > @ ^ and _.
 pub const LINE_END: u8 = 10;
 
@@ -34,6 +39,7 @@ pub enum Class {
     Letter,
     LetterDigit,
     Label,
+    Line,
 }
 
 // A part of a line: from one place up to another.
@@ -43,15 +49,29 @@ pub struct Span {
     pub to: usize,
 }
 
-// What a line says: it is outside the subset, names a blank node, says nothing, or is a statement.
+// A statement: where its three tokens stand in the line.
 #[derive(Clone, Copy)]
-pub enum Line {
+pub struct Triple {
+    pub subject: Span,
+    pub predicate: Span,
+    pub object: Span,
+}
+
+// Why a line is refused: it is outside the subset, or its statement names a blank node.
+#[derive(Clone, Copy)]
+pub enum LineFault {
     Outside,
     Unknown,
-    Nothing,
-    Triple {
-        subject: Span,
-        predicate: Span,
-        object: Span,
-    },
+}
+
+// A line outside the subset gets 13, one that names a blank node 14.
+impl From<LineFault> for Refusal {
+    ghost from_gives = { λ fault r. r ≡ refusal_of fault };
+
+    fn from(fault: LineFault) -> Refusal {
+        match fault {
+            LineFault::Outside => Refusal::Statement,
+            LineFault::Unknown => Refusal::UnknownNode,
+        }
+    }
 }

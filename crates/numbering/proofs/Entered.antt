@@ -14,7 +14,6 @@ use lib.Dec.{eqb}
 use Rattle.facts.proofs.Terms.{by_cases}
 use Rattle.ntriples.specs.Tokens.{Token, part}
 use Rattle.numbering.specs.declared.Counts.{Counts}
-use Rattle.numbering.specs.declared.Numbered.{Numbered}
 use Rattle.numbering.specs.Weights.{weight}
 use Rattle.ordered.specs.Inserted.{inserted}
 use Rattle.numbering.specs.Numbering.{is_literal, Known, with_token, knows, number_in}
@@ -23,7 +22,7 @@ use Rattle.ordered.proofs.Inserted.{here, each, still, rises, inserted-length}
 use Rattle.numbering.proofs.Numbering.{known_kept, known-new, known-still, known_more, new-literal, new-name}
 
 pub entered-found : (input before : List ℕ) (from to : ℕ) (c : Counts) (v : ℕ) (k : Known) → Kept input before c k
-    → Held input before (entries c) (part input from to) v → Entered input from to before c (record { number = v; counts = c }) k
+    → Held input before (entries c) (part input from to) v → Entered input from to before c c v k
 entered-found input before from to c v k q h =
     let e : knows k (part input from to) ≡ true = rw h.token at (q.known h.at h.within) in
     let s : with_token k (part input from to) ≡ k = known_kept k (part input from to) e in
@@ -70,12 +69,12 @@ first_byte input from to h =
     ap (λ (b : ℕ). eqb b 34) e
 
 -- the next number is the new token's
-record Next (c : Counts) (k : Known) (t : Token) (g : Numbered) : Type 0 where
-  number : g.number ≡ number_in (with_token k t) t
-  names : g.counts.names ≡ length (with_token k t).names
-  literals : g.counts.literals ≡ length (with_token k t).literals
-  count : entries g.counts ≡ suc (entries c)
-  most : g.number ≤ 40000 + suc (entries c)
+record Next (c : Counts) (k : Known) (t : Token) (g : ℕ × Counts) : Type 0 where
+  number : g.0 ≡ number_in (with_token k t) t
+  names : g.1.names ≡ length (with_token k t).names
+  literals : g.1.literals ≡ length (with_token k t).literals
+  count : entries g.1 ≡ suc (entries c)
+  most : g.0 ≤ 40000 + suc (entries c)
 
 next-new : (input items : List ℕ) (c : Counts) (k : Known) (t : Token) (b : ℕ) → Kept input items c k → knows k t ≡ false → is_literal t ≡ eqb b 34 → Next c k t (next_of c b)
 unfolding next_of
@@ -89,11 +88,11 @@ module _ (input before : List ℕ) (from to : ℕ) (c : Counts) (h : Here input 
   t : Token
   t = part input from to
 
-  g : Numbered
+  g : ℕ × Counts
   g = next_of c (get_or input from 0)
 
   v : ℕ
-  v = entry from to g.number
+  v = entry from to g.0
 
   after : List ℕ
   after = inserted before (entries c) r v
@@ -102,7 +101,7 @@ module _ (input before : List ℕ) (from to : ℕ) (c : Counts) (h : Here input 
   unfolding t g
   new = next-new input before c k t (get_or input from 0) q (missing-unknown input before c k t r q m) (first_byte input from to h.some)
 
-  small : g.number < 65536
+  small : g.0 < 65536
   small = omega (arith, new.most, h.room, h.most)
 
   low : from ≤ 65536
@@ -113,7 +112,7 @@ module _ (input before : List ℕ) (from to : ℕ) (c : Counts) (h : Here input 
 
   token : token_of input v ≡ t
   unfolding t v
-  token = entry-token from to g.number low high small input
+  token = entry-token from to g.0 low high small input
 
   fits : r ≤ entries c
   fits = m.within
@@ -125,8 +124,8 @@ module _ (input before : List ℕ) (from to : ℕ) (c : Counts) (h : Here input 
   unfolding after v
   whole = each before (entries c) r v fits room (Whole input) h.ordered.whole
       (record {
-        forward = rw (entry-from from to g.number low high small, entry-to from to g.number low high small) (omega (arith, h.some));
-        within = rw (entry-to from to g.number low high small) h.within;
+        forward = rw (entry-from from to g.0 low high small, entry-to from to g.0 low high small) (omega (arith, h.some));
+        within = rw (entry-to from to g.0 low high small) h.within;
       })
 
   rising : (i : ℕ) → suc i < suc (entries c) → weight (token_at input after i) < weight (token_at input after (suc i))
@@ -134,9 +133,9 @@ module _ (input before : List ℕ) (from to : ℕ) (c : Counts) (h : Here input 
   rising = rises before (entries c) r v fits room (λ e. weight (token_of input e)) h.ordered.rising
       (λ i l. rw token (m.below i l)) (λ i l p. rw token (m.above i l p))
 
-  stored : number_of v ≡ g.number
+  stored : number_of v ≡ g.0
   unfolding v
-  stored = entry-number from to g.number low high small
+  stored = entry-number from to g.0 low high small
 
   known : (i : ℕ) → i < suc (entries c) → knows (with_token k t) (token_at input after i) ≡ true
   unfolding after
@@ -158,7 +157,7 @@ module _ (input before : List ℕ) (from to : ℕ) (c : Counts) (h : Here input 
           let b = still before (entries c) r v fits room a.0 a.1 in
           (b.0, b.1, ap (token_of input) b.2 ∙ a.2)
 
-  pub entered-new : Entered input from to (inserted before (entries c) r (entry from to (next_of c (get_or input from 0)).number)) c (next_of c (get_or input from 0)) k
+  pub entered-new : Entered input from to (inserted before (entries c) r (entry from to (next_of c (get_or input from 0)).0)) c (next_of c (get_or input from 0)).1 (next_of c (get_or input from 0)).0 k
   unfolding t g v after
   entered-new =
       record {
@@ -175,10 +174,6 @@ module _ (input before : List ℕ) (from to : ℕ) (c : Counts) (h : Here input 
         more = omega (arith, new.count);
       }
 
-pub next-most : (c : Counts) (b : ℕ) → entries c < 4096 → (next_of c b).number < 65536
+pub next-most : (c : Counts) (b : ℕ) → entries c < 4096 → (next_of c b).0 < 65536
 unfolding next_of
 next-most c b h = by_cases (eqb b 34) (λ p. rw p (omega arith)) (λ p. rw p (omega arith))
-
-pub entered-as : (input : List ℕ) (from to : ℕ) (c : Counts) (k : Known) {r g : Numbered} {x y : List ℕ} → r ≡ g → x ≡ y
-    → Entered input from to y c g k → Entered input from to x c r k
-entered-as input from to c k e f h = rw (e, f) h

@@ -12,17 +12,3 @@ pub struct Counts {
     pub names: u32,
     pub literals: u32,
 }
-
-// A token's number, and the counts with it.
-#[derive(Clone, Copy)]
-pub struct Numbered {
-    pub number: u32,
-    pub counts: Counts,
-}
-
-// What the index says of a token: its number, or the place where its entry belongs.
-#[derive(Clone, Copy)]
-pub enum Found {
-    Number(u32),
-    Place(usize),
-}

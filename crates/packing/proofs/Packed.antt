@@ -5,7 +5,7 @@ use Prim.Native.Nat.{ℕ, ◌+◌, ◌*◌, ◌/◌, ◌%◌, ◌≤◌}
 use native.Mathlib.Omega.{arith}
 use Rattle.facts.specs.declared.Code.{Code}
 use Rattle.facts.specs.declared.Refusal.{Refusal}
-use Rattle.facts.specs.declared.Answer.TheVariants.{Refused}
+use Rattle.facts.specs.Results.{Refused}
 use Rattle.facts.specs.Answers.{code_of}
 use Rattle.facts.proofs.Codes.{number-within}
 use Rattle.packing.specs.Packed.{packed, unpacked, Small}

@@ -15,11 +15,14 @@ const COUNT: u64 = 4294967296;
 
 const FILLING: u64 = 281474976710656;
 
-// An answer in one number.
+// An answer in one number. No `From`: its numbers must fit their bits, and that can be asked of a function alone.
 pub fn pack(a: Answer) -> u64
     requires { Small (code_of a) }
     ensures { result ≡ packed (code_of a) }
 {
     let c = codes::code_of(a);
-    c.number as u64 + PLACE * c.place as u64 + COUNT * c.count as u64 + FILLING * c.filling as u64
+    u64::from(c.number)
+        + PLACE * u64::from(c.place)
+        + COUNT * u64::from(c.count)
+        + FILLING * u64::from(c.filling)
 }

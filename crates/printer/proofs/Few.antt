@@ -8,24 +8,24 @@ use native.Mathlib.Nat.{add-zero, zero-add}
 use Rattle.columns.specs.Lines.{flat, items_from}
 use Rattle.columns.proofs.Lists.{flat_append}
 use Rattle.facts.specs.declared.Refusal.TheVariants.{Form}
-use Rattle.facts.specs.declared.Answer.TheVariants.{Refused}
-use Rattle.batch.specs.declared.Input.TheVariants.{Torn, Parts}
-use Rattle.batch.specs.Input.{layout_of}
+use Rattle.facts.specs.Results.{Refused}
+use Rattle.batch.specs.Input.{layout_of, parts}
 use Rattle.batch.specs.Output.{code_line, reply_in, output_by, output_of}
 use Rattle.batch.proofs.Whole.{layout-questions, replies-output}
-use Rattle.printer.specs.declared.Printed.{Printed}
+use Rattle.std.specs.Prelude.{Result, None, Some}
+use Rattle.printer.specs.declared.Cut.{Cut}
 use Rattle.printer.specs.Replies.{replies, Counted, CountedReplies}
 
-pub parts-few : (b : List ℕ) (size n : ℕ) → layout_of b ≡ Parts size n → n ≤ 2048
+pub parts-few : (b : List ℕ) (size n : ℕ) → layout_of b ≡ Some (parts size n) → n ≤ 2048
 parts-few b size n e = let q = layout-questions b size n e in omega arith
 
 -- a torn input's output is the line of its refusal
-pub torn-counted : (b : List ℕ) (r : Printed) → layout_of b ≡ Torn → Counted (code_line (Refused Form 0)) r → Counted (output_of b) r
+pub torn-counted : (b : List ℕ) (r : Result ℕ Cut) → layout_of b ≡ None → Counted (code_line (Refused Form 0)) r → Counted (output_of b) r
 unfolding output_of output_by
 torn-counted b r e c = rw e c
 
 -- and so is what is said of that line
-pub torn-is : (b : List ℕ) (P : List ℕ → Type 0) → layout_of b ≡ Torn → P (code_line (Refused Form 0)) → P (output_of b)
+pub torn-is : (b : List ℕ) (P : List ℕ → Type 0) → layout_of b ≡ None → P (code_line (Refused Form 0)) → P (output_of b)
 unfolding output_of output_by
 torn-is b P e p = rw e p
 
@@ -43,7 +43,7 @@ unfolding flat items_from
 nothing piece i = refl
 
 -- and any other's are the replies, of which the first ones are the front
-pub replies-counted : (b : List ℕ) (size n : ℕ) (r : Printed) → layout_of b ≡ Parts size n → CountedReplies b size n r → Counted (output_of b) r
+pub replies-counted : (b : List ℕ) (size n : ℕ) (r : Result ℕ Cut) → layout_of b ≡ Some (parts size n) → CountedReplies b size n r → Counted (output_of b) r
 replies-counted b size n r e c =
     let piece : ℕ → List ℕ = λ k. reply_in b size k 63473 in
     let m = n - c.count in
@@ -61,5 +61,5 @@ replies-counted b size n r e c =
     }
 
 -- what is said of the replies is said of the output
-pub replies-are : (b : List ℕ) (size n : ℕ) (P : List ℕ → Type 0) → layout_of b ≡ Parts size n → P (replies b size n) → P (output_of b)
+pub replies-are : (b : List ℕ) (size n : ℕ) (P : List ℕ → Type 0) → layout_of b ≡ Some (parts size n) → P (replies b size n) → P (output_of b)
 replies-are b size n P e p = rw (replies-output b size n 63473 e (omega arith)) p

@@ -3,81 +3,59 @@
 // stand there. What standard output passes on no contract can say: that is seen by running.
 #![tactic(auto)]
 
-ghost use Rattle.std.specs.Prelude.{◌≡◌, true, ◌≤◌, length};
+ghost use Rattle.std.specs.Prelude.{◌≤◌, Err, IfOk};
 ghost use Rattle.std.specs.Io.KnownBytes.{Appends};
+ghost use Rattle.facts.specs.Results.{refused_at};
 ghost use Rattle.batch.specs.Output.{code_line, output_of};
 ghost use Rattle.printer.specs.Replies.{replies, Counted, CountedReplies};
 
-use batch::Input;
-use facts::{Answer, Refusal};
+use batch::Parts;
+use facts::Refusal;
 use replies::REPLY_BYTES;
 use std::io::Write;
 
-// Whether all was written, and the bytes of the pieces that were. Where a write failed, nothing more was tried.
+// A write that failed, and the bytes of the pieces that were written before it. Nothing more was tried.
 #[derive(Clone, Copy)]
-pub struct Printed {
-    pub whole: bool,
-    pub bytes: usize,
+pub struct Cut {
+    pub printed: usize,
 }
 
-// Memory for the longest reply.
-fn reply_space() -> [u8; REPLY_BYTES]
-    ensures { 63473 ≡ length result }
+// Prints the reply to each question, up to the first that can't be written, and gives their bytes. Only one reply at a time is in
+// memory.
+fn print_replies<W: Write>(to: &mut W, input: &[u8], parts: Parts) -> Result<usize, Cut>
+    requires { parts.questions ≤ 2048 }
+    ensures counted { CountedReplies input.now parts.table parts.questions result }
+    ensures written { IfOk result (λ _. Appends (W.contents to.old) (W.contents to.new) (replies input.now parts.table parts.questions)) }
 {
-    [0u8; REPLY_BYTES]
-}
-
-// Prints the reply to each question, up to the first that can't be written. Only one reply at a time is in memory.
-fn print_replies<W: Write>(to: &mut W, input: &[u8], table: usize, questions: usize) -> Printed
-    requires { questions ≤ 2048 }
-    ensures counted { CountedReplies input.now table questions result }
-    ensures written { result.whole ≡ true → Appends (W.contents to.old) (W.contents to.new) (replies input.now table questions) }
-{
-    let mut out = reply_space();
+    let mut out = [0u8; REPLY_BYTES];
     let mut printed = 0;
-    let mut k = 0;
-    while k < questions {
-        let size = replies::reply(input, table, k, &mut out);
-        if to.write_all(&out[..size]).is_err() {
-            return Printed {
-                whole: false,
-                bytes: printed,
-            };
-        }
+    for k in 0..parts.questions {
+        let Some(size) = replies::reply(input, parts.table, k, &mut out) else {
+            continue;
+        };
+        to.write_all(&out[..size]).map_err(|_| Cut { printed })?;
         printed += size;
-        k += 1;
     }
-    Printed {
-        whole: true,
-        bytes: printed,
-    }
+    Ok(printed)
 }
 
-// Prints the one line for a torn input.
-pub fn print_torn<W: Write>(to: &mut W) -> Printed
-    ensures counted { Counted (code_line (Answer.Refused Refusal.Form 0)) result }
-    ensures written { result.whole ≡ true → Appends (W.contents to.old) (W.contents to.new) (code_line (Answer.Refused Refusal.Form 0)) }
+// Prints the one line for a torn input, and gives its bytes.
+pub fn print_torn<W: Write>(to: &mut W) -> Result<usize, Cut>
+    ensures counted { Counted (code_line (Err (refused_at Refusal.Form 0))) result }
+    ensures written { IfOk result (λ _. Appends (W.contents to.old) (W.contents to.new) (code_line (Err (refused_at Refusal.Form 0)))) }
 {
     let line = replies::refusal();
-    if to.write_all(&line).is_ok() {
-        return Printed {
-            whole: true,
-            bytes: line.len(),
-        };
-    }
-    Printed {
-        whole: false,
-        bytes: 0,
-    }
+    to.write_all(&line).map_err(|_| Cut { printed: 0 })?;
+    Ok(line.len())
 }
 
-// Prints the whole output for an input.
-pub fn print_output<W: Write>(to: &mut W, input: &[u8]) -> Printed
+// Prints the whole output for an input, and gives its bytes.
+pub fn print_output<W: Write>(to: &mut W, input: &[u8]) -> Result<usize, Cut>
     ensures counted { Counted (output_of input.now) result }
-    ensures written { result.whole ≡ true → Appends (W.contents to.old) (W.contents to.new) (output_of input.now) }
+    ensures written { IfOk result (λ _. Appends (W.contents to.old) (W.contents to.new) (output_of input.now)) }
 {
     match input::layout(input) {
-        Input::Torn => print_torn(to),
-        Input::Parts { table, questions } => print_replies(to, input, table, questions),
+        None => print_torn(to),
+        Some(parts) => print_replies(to, input, parts),
     }
 }

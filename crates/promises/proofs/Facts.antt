@@ -14,7 +14,7 @@ use Rattle.facts.specs.declared.Kind.TheVariants.{NoTerm, Vocabulary, Name, Lite
 use Rattle.facts.specs.declared.Fact.{Fact}
 use Rattle.facts.specs.declared.Refusal.{Refusal}
 use Rattle.facts.specs.declared.Refusal.TheVariants.{Term, Blank, Part, Class}
-use Rattle.facts.specs.declared.Verdict.TheVariants.{Sound, Faulty}
+use Rattle.facts.specs.Results.{Sound, Faulty}
 use Rattle.facts.specs.Terms.{kind_of, is_no_term, is_blank}
 use Rattle.facts.specs.Facts.{before, has_no_term, has_blank, misplaced, text_as_class, fault_of}
 use Rattle.facts.proofs.Terms.{by_cases, OfKind, kind-within}
@@ -23,10 +23,9 @@ use Rattle.table.specs.Scans.{earns, first_earned, First}
 use Rattle.table.specs.Tables.{ascending}
 use Rattle.table.proofs.Tables.{first-earned}
 use Rattle.rules.specs.Graph.{◌∈◌}
-use Rattle.ntriples.specs.declared.Line.{Line}
-use Rattle.ntriples.specs.declared.Line.TheVariants.{Outside, Unknown, Nothing, Triple}
+use Rattle.std.specs.Prelude.{Some, None, Ok, Err}
 use Rattle.ntriples.specs.Tokens.{Token, spanned}
-use Rattle.ntriples.specs.Lexed.{line_of}
+use Rattle.ntriples.specs.Lexed.{Line, line_of}
 use Rattle.numbering.specs.Numbering.{has, is_literal}
 use Rattle.numbering.specs.Vocabulary.{vocabulary, term_of}
 use Rattle.numbering.proofs.Numbering.{place-within}
@@ -131,12 +130,11 @@ module _ (b : List ℕ) (small : length b ≤ 65536) where
   line-earns : (l : List ℕ) → l ∈ lines_of b → (v : Line) → line_of l ≡ v → (r : Refusal) → fact_refusal (fact_of (known_by (statements (lines_of b)))) (said_by l v) ≡ Faulty r
       → FactRefused (statements (lines_of b)) l r
   unfolding said_by fact_refusal
-  line-earns l m Outside e r h = not-faulty refl h
-  line-earns l m Unknown e r h = not-faulty refl h
-  line-earns l m Nothing e r h = not-faulty refl h
-  line-earns l m (Triple x y z) e r h =
-      let s : Statement = record { subject = spanned l x; predicate = spanned l y; object = spanned l z } in
-      let w = said-states l x y z e in
+  line-earns l m (Err f) e r h = not-faulty refl h
+  line-earns l m (Ok None) e r h = not-faulty refl h
+  line-earns l m (Ok (Some t)) e r h =
+      let s : Statement = record { subject = spanned l t.subject; predicate = spanned l t.predicate; object = spanned l t.object } in
+      let w = said-states l t e in
       let i : s ∈ statements (lines_of b) = said-among s l (lines_of b) m (subst (λ (u : List Statement). s ∈ u) (sym (states-said l s w)) (Memᴰ.head refl)) in
       record { statement = s; states = w; first = (fact-earns s i r).0 h }
 

@@ -15,7 +15,7 @@ use Rattle.facts.specs.declared.Fact.{Fact}
 use Rattle.facts.specs.declared.Refusal.{Refusal}
 use Rattle.facts.specs.declared.Refusal.TheVariants as refusals
 use Rattle.facts.specs.declared.Code.{Code}
-use Rattle.facts.specs.declared.Answer.TheVariants.{Done, Refused}
+use Rattle.facts.specs.Results.{Done, Refused}
 use Rattle.facts.specs.Answers.{code_of, DoneWith}
 use Rattle.facts.proofs.Terms.{by_cases}
 use Rattle.facts.proofs.Codes.{same_answer, told-refused}

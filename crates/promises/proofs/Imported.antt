@@ -11,8 +11,7 @@ use lib.Dec.{T}
 use Rattle.facts.specs.declared.Fact.{Fact}
 use Rattle.facts.specs.declared.Refusal.{Refusal}
 use Rattle.facts.specs.declared.Refusal.TheVariants as refusals
-use Rattle.facts.specs.declared.Verdict.{Verdict}
-use Rattle.facts.specs.declared.Verdict.TheVariants.{Sound, Faulty}
+use Rattle.facts.specs.Results.{Verdict, Sound, Faulty}
 use Rattle.facts.specs.Facts.{fault_of}
 use Rattle.facts.proofs.Facts.{fault-none}
 use Rattle.table.specs.Tables.{accepted, refused, ascending, TableFacts}
@@ -20,8 +19,7 @@ use Rattle.table.proofs.Lists.{formed-in}
 use Rattle.rules.specs.Graph.{◌∈◌}
 use Rattle.ntriples.specs.Lexed.{line_of}
 use Rattle.gathering.proofs.Gathered.{gathered-has}
-use Rattle.imports.specs.declared.Finding.{Finding}
-use Rattle.imports.specs.declared.Finding.TheVariants.{Clear, Fault}
+use Rattle.imports.specs.Results.{Finding, Clear, Fault}
 use Rattle.imports.specs.Lines.{lines_of, Statement, said, statements}
 use Rattle.imports.specs.Import.{known_by, fact_of, facts_of, line_refusal, fact_refusal, first_on, or_else, judged_by, judged, import_of}
 use Rattle.imports.proofs.Findings.{both-clear, all-clear, sound-clear, FirstFault, says_first, judged-fault}

@@ -7,18 +7,16 @@ use Prim.Native.Nat.{ℕ, suc}
 use native.Mathlib.Omega.{arith}
 use Rattle.facts.specs.declared.Refusal.{Refusal}
 use Rattle.facts.specs.declared.Refusal.TheVariants as refusals
-use Rattle.facts.specs.declared.Verdict.{Verdict}
-use Rattle.facts.specs.declared.Verdict.TheVariants.{Sound, Faulty}
-use Rattle.ntriples.specs.declared.Span.{Span}
-use Rattle.ntriples.specs.declared.Line.{Line}
-use Rattle.ntriples.specs.declared.Line.TheVariants.{Outside, Unknown, Nothing, Triple}
+use Rattle.facts.specs.Results.{Verdict, Sound, Faulty}
+use Rattle.std.specs.Prelude.{Some, None, Ok, Err}
+use Rattle.ntriples.specs.declared.Triple.{Triple}
+use Rattle.ntriples.specs.declared.LineFault.TheVariants.{Outside, Unknown}
 use Rattle.ntriples.specs.Tokens.{spanned}
 use Rattle.ntriples.specs.Grammar.{Silent}
-use Rattle.ntriples.specs.Lexed.{line_of}
+use Rattle.ntriples.specs.Lexed.{Line, line_of}
 use Rattle.ntriples.specs.Outcomes.{States, ReadAs}
 use Rattle.ntriples.proofs.Outcomes.{outcomes}
-use Rattle.imports.specs.declared.Finding.{Finding}
-use Rattle.imports.specs.declared.Finding.TheVariants.{Clear}
+use Rattle.imports.specs.Results.{Finding, Clear}
 use Rattle.imports.specs.Lines.{Statement, said_by, said, statements}
 use Rattle.imports.specs.Import.{line_refusal, found_on, first_on}
 use Rattle.imports.proofs.Findings.{found-clear}
@@ -32,10 +30,9 @@ not-faulty {X} {v} {r} p q = let w : Sound ≡ Faulty r = sym p ∙ q in let z :
 
 earned : (l : List ℕ) (v : Line) (r : Refusal) → line_of l ≡ v → line_refusal v ≡ Faulty r → LineRefused l r
 unfolding line_refusal
-earned l Outside r e h = let q : refusals.Statement ≡ r = cc in subst (LineRefused l) q (outside ((outcomes l).outside.0 e))
-earned l Unknown r e h = let q : refusals.UnknownNode ≡ r = cc in subst (LineRefused l) q (unknown ((outcomes l).unknown.0 e))
-earned l Nothing r e h = not-faulty refl h
-earned l (Triple a b c) r e h = not-faulty refl h
+earned l (Err Outside) r e h = let q : refusals.Statement ≡ r = cc in subst (LineRefused l) q (outside ((outcomes l).outside.0 e))
+earned l (Err Unknown) r e h = let q : refusals.UnknownNode ≡ r = cc in subst (LineRefused l) q (unknown ((outcomes l).unknown.0 e))
+earned l (Ok t) r e h = not-faulty refl h
 
 earns : {l : List ℕ} {r : Refusal} → LineRefused l r → line_refusal (line_of l) ≡ Faulty r
 unfolding line_refusal
@@ -60,8 +57,9 @@ unfolding said_by
 silent-said l h = ap (said_by l) ((outcomes l).nothing.1 h)
 
 -- a line that says something states it
-pub said-states : (l : List ℕ) (a b c : Span) → line_of l ≡ Triple a b c → States l (spanned l a) (spanned l b) (spanned l c)
-said-states l a b c e = ((outcomes l).triple (spanned l a) (spanned l b) (spanned l c)).0 (record { a = a; b = b; c = c; line = e; subject = refl; predicate = refl; object = refl })
+pub said-states : (l : List ℕ) (t : Triple) → line_of l ≡ Ok (Some t) → States l (spanned l t.subject) (spanned l t.predicate) (spanned l t.object)
+said-states l t e =
+    ((outcomes l).triple (spanned l t.subject) (spanned l t.predicate) (spanned l t.object)).0 (record { places = t; line = e; subject = refl; predicate = refl; object = refl })
 
 -- lines that earn neither 13 nor 14 are read
 pub clear_reads : (i : ℕ) (ls : List (List ℕ)) → first_on (λ l. line_refusal (line_of l)) i ls ≡ Clear → Reads ls (statements ls)
@@ -72,12 +70,12 @@ clear_reads i (l ∷ ls) e =
     go (line_of l) refl c.0 (clear_reads (suc i) ls c.1)
   where
     go : (v : Line) → line_of l ≡ v → line_refusal (line_of l) ≡ Sound → Reads ls (statements ls) → Reads (l ∷ ls) (said l ++ statements ls)
-    go Outside e s r = not-faulty s ((line_refused l refusals.Statement).1 (outside ((outcomes l).outside.0 e)))
-    go Unknown e s r = not-faulty s ((line_refused l refusals.UnknownNode).1 (unknown ((outcomes l).unknown.0 e)))
-    go Nothing e s r = let h = (outcomes l).nothing.0 e in rw (silent-said l h) (silent h r)
-    go (Triple a b c) e s r =
-        let h = said-states l a b c e in
-        let t : Statement = record { subject = spanned l a; predicate = spanned l b; object = spanned l c } in
+    go (Err Outside) e s r = not-faulty s ((line_refused l refusals.Statement).1 (outside ((outcomes l).outside.0 e)))
+    go (Err Unknown) e s r = not-faulty s ((line_refused l refusals.UnknownNode).1 (unknown ((outcomes l).unknown.0 e)))
+    go (Ok None) e s r = let h = (outcomes l).nothing.0 e in rw (silent-said l h) (silent h r)
+    go (Ok (Some p)) e s r =
+        let h = said-states l p e in
+        let t : Statement = record { subject = spanned l p.subject; predicate = spanned l p.predicate; object = spanned l p.object } in
         rw (states-said l t h) (states h r)
 
 -- and what is read is what those lines say
@@ -94,7 +92,7 @@ line-sound l v e s i later c = ap (λ (x : Verdict). found_on x i later) (ap lin
 pub reads-clear : {ls : List (List ℕ)} {ss : List Statement} (i : ℕ) → Reads ls ss → first_on (λ l. line_refusal (line_of l)) i ls ≡ Clear
 unfolding first_on line_refusal
 reads-clear i end = refl
-reads-clear i (silent {l} {ls} {ss} h r) = line-sound l Nothing ((outcomes l).nothing.1 h) refl i _ (reads-clear (suc i) r)
+reads-clear i (silent {l} {ls} {ss} h r) = line-sound l (Ok None) ((outcomes l).nothing.1 h) refl i _ (reads-clear (suc i) r)
 reads-clear i (states {l} {ls} {s} {ss} h r) =
     let t = ((outcomes l).triple s.subject s.predicate s.object).1 h in
-    line-sound l (Triple t.a t.b t.c) t.line refl i _ (reads-clear (suc i) r)
+    line-sound l (Ok (Some t.places)) t.line refl i _ (reads-clear (suc i) r)

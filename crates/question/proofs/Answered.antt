@@ -1,22 +1,20 @@
 -- Laws of the question: what its answer means, and that what is printed is a derivation of exactly the fewest table lines.
 -- Assumes nothing.
+use Rattle.std.specs.Prelude.{Err}
 use mathlib.Core.Path.{◌≡◌, refl, sym, ap, ◌∙◌, subst}
 use mathlib.Core.Logic.{◌⊎◌, inl, inr, ⊎_elim}
 use mathlib.Core.Option
 use mathlib.Core.Option.{Option, none, some}
-use mathlib.Core.List.{List, ◌++◌, map}
+use mathlib.Core.List.{List, map}
 use Prim.Native.Nat.{ℕ, suc, ◌+◌, ◌*◌, ◌≤◌, ◌<◌}
 use native.Mathlib.Omega.{arith}
-use lib.ListN.{length, get_or, drop}
+use lib.ListN.{length}
 use lib.Dec.{T, leb}
 use borrow.Author.Tests.{le-leb, lt-leb, leb-true, leb-false}
 use Rattle.facts.specs.declared.Fact.{Fact}
 use Rattle.facts.specs.declared.Refusal.{Refusal}
 use Rattle.facts.specs.declared.Refusal.TheVariants.{Allowance, Short}
-use Rattle.facts.specs.declared.Verdict.{Verdict}
-use Rattle.facts.specs.declared.Verdict.TheVariants.{Sound, Faulty}
-use Rattle.facts.specs.declared.Answer.{Answer}
-use Rattle.facts.specs.declared.Answer.TheVariants.{Done, Yes, No, Long, Accepted, Refused}
+use Rattle.facts.specs.Results.{Verdict, Sound, Faulty, Answer, Done, Yes, No, Long, Accepted, Refused}
 use Rattle.facts.specs.Facts.{fact, well_formed, or_else}
 use Rattle.facts.specs.Gaps.{Fills, Askable, question_fault, filling_of, filled_by}
 use Rattle.facts.specs.Answers.{code_of, YesWith, LongWith, SaysFollows, SaysNo, RefusedWith}
@@ -24,9 +22,8 @@ use Rattle.facts.proofs.Terms.{by_cases}
 use Rattle.facts.proofs.Gaps.{question-none, gapless-names, filled-back, filling-within}
 use Rattle.facts.proofs.Codes.{told-yes, told-long, told-no, told-refused}
 use Rattle.columns.specs.Lines.{over}
-use Rattle.table.specs.Tables.{Table, accepted, refused, table_of, row_of, row_fact, loaded}
-use Rattle.table.proofs.Rows.{loaded-accepted}
-use Rattle.table.proofs.Tables.{table_of-accepted, row_at, row-items}
+use Rattle.table.specs.Tables.{Table, accepted, refused, table_of}
+use Rattle.table.proofs.Tables.{table_of-accepted}
 use Rattle.table.proofs.Lists.{formed-at, ascends-at}
 use Rattle.rules.specs.Graph.{◌∈◌}
 use Rattle.rules.specs.Rules.{Rule}
@@ -42,7 +39,7 @@ use Rattle.rules.proofs.Fewest.{fewest-least, fewest-none, derivable-entailed}
 use Rattle.rules.proofs.Chosen.{chosen-fewest, fewest-few, chosen-path, chosen-printable}
 use Rattle.rules.proofs.Printed.{path-count}
 use Rattle.derivation.proofs.Bytes.{derivation-length}
-use Rattle.question.specs.Row.{facts_of, Sorted}
+use Rattle.question.specs.Row.{Sorted}
 use Rattle.question.specs.Question.{needed, asked, derivation_of, derivation_for, filling_for, answer_by, answer_of, unless, answer_from, question_answer, printed_for, printed_from, written, output_after, Question, question, Answered, Prints, Meaning, Means}
 
 -- ---- the answer
@@ -252,7 +249,7 @@ answer-unnamed table t limit size (Long f) e h = refl
 answer-unnamed table t limit size No e h = refl
 answer-unnamed table t limit size (Done n) e h = refl
 answer-unnamed table t limit size (Accepted n) e h = refl
-answer-unnamed table t limit size (Refused r place) e h = refl
+answer-unnamed table t limit size (Err stop) e h = refl
 
 -- ---- the contract
 
@@ -359,20 +356,8 @@ module _ (table : List ℕ) (t : Fact) (limit : ℕ) (entry : List ℕ) where
     unfolding question_answer answer_from output_after unless printed_from
     answered-settled exit r e a o = said (question table t limit) entry exit r (record { answer = rw (is, e) a; output = o ∙ rw (is, e, a) })
 
--- the row that an accepted table leaves: its facts, ascending
-module _ (table : List ℕ) (facts : List Fact) (is : table_of table ≡ accepted facts) (row old : List ℕ) (put : row ≡ over (row_of (loaded table)) old) where
-  row_is : row ≡ row_of facts ++ drop (length (row_of facts)) old
-  row_is = put ∙ rw (loaded-accepted table facts is)
-
-  pub loaded-facts : (n : ℕ) → length facts ≡ n → facts_of row n ≡ facts
-  loaded-facts n e = rw (← e, row_is) (row-items facts (drop (length (row_of facts)) old))
-
-  pub loaded-sorted : (n : ℕ) → length facts ≡ n → 3072 ≤ length row → Sorted row n
-  loaded-sorted n e h =
-      let s = ((table_of-accepted table facts).0 is).1 in
-      let at : (i : ℕ) → i < length facts → row_fact row i ≡ get_or facts i (fact 0 0 0) = λ i l. rw row_is (row_at facts (drop (length (row_of facts)) old) (fact 0 0 0) i l) in
-      record {
-        few = omega (arith, s.few);
-        whole = omega (arith, s.few);
-        ascends = λ i l. rw (at i (omega arith), at (suc i) (omega arith)) (ascends-at facts i (fact 0 0 0) s.ascends (omega arith));
-      }
+-- the facts of an accepted table ascend
+pub accepted-sorted : (table : List ℕ) (facts : List Fact) → table_of table ≡ accepted facts → Sorted facts
+accepted-sorted table facts is =
+    let s = ((table_of-accepted table facts).0 is).1 in
+    record { few = s.few; ascends = λ i l. ascends-at facts i (fact 0 0 0) s.ascends l }

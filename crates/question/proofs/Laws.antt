@@ -1,29 +1,16 @@
--- Laws of rows and of pushes onto the queue.
+-- Laws of pushes onto the queue.
 -- Assumes nothing.
-use mathlib.Core.Path.{◌≡◌, refl, sym, ap, ◌∙◌, subst}
-use mathlib.Core.Logic.{⊎_elim}
-use mathlib.Core.Bool.{Bool, true, false, ◌||◌}
-use mathlib.Core.List.Memᴰ
+use mathlib.Core.Path.{◌≡◌, refl, sym, ap, ◌∙◌}
 use mathlib.Core.List.{List, [], ◌∷◌}
-use Prim.Native.Nat.{ℕ, zero, suc, ◌+◌, ◌≤◌, ◌<◌}
-use native.Mathlib.Nat.{eq-or-lt_of_le}
+use Prim.Native.Nat.{ℕ, zero, suc, ◌≤◌, ◌<◌}
 use native.Mathlib.Omega.{arith}
 use lib.ListN.{length, get_or, set, replicate, length-set}
 use lib.Seq.{get_or-set_same, get_or-set_other}
-use lib.Dec.{T, eqb, leb}
+use lib.Dec.{eqb, leb}
 use borrow.Author.Tests.{eqb-true, eqb-false, leb-true, leb-false}
-use Rattle.facts.specs.declared.Fact.{Fact}
-use Rattle.rules.specs.Graph.{◌∈◌}
-use Rattle.facts.proofs.Terms.{by_cases, T_of}
+use Rattle.facts.proofs.Terms.{by_cases}
 use Rattle.question.specs.declared.State.{State}
-use Rattle.table.specs.Tables.{row_fact}
-use Rattle.columns.specs.Lines.{items_from}
-use Rattle.question.specs.Row.{facts_of}
-use Rattle.question.specs.State.{mark_at, place_at, marked, Ordered, empty}
-
-pub or-none : (b : Bool) → (b || false) ≡ b
-or-none true = refl
-or-none false = refl
+use Rattle.question.specs.State.{mark_at, place_at, marked, Ordered, empty, pushed}
 
 -- two numbers are equal or not, and the first is at most the second or above it
 pub equal-or : {X : Type 0} (i j : ℕ) → (i ≡ j → X) → ((i ≡ j → ⊥) → X) → X
@@ -31,47 +18,6 @@ equal-or i j f g = by_cases (eqb i j) (λ e. f (eqb-true i j e)) (λ e. g (eqb-f
 
 pub most-or : {X : Type 0} (i j : ℕ) → (i ≤ j → X) → (j < i → X) → X
 most-or i j f g = by_cases (leb i j) (λ e. f (leb-true i j e)) (λ e. g (leb-false i j e))
-
-pub some_of : (f : ℕ) → (f ≡ 0 → ⊥) → 0 < f
-some_of zero h = absurd (h refl)
-some_of (suc f) h = omega arith
-
--- what a call that tests a fact says of the fact itself
-module _ (p : Fact → Bool) {a b : Fact} {r : Bool} (e : r ≡ p a) (same : a ≡ b) where
-  pub holds_of : r ≡ true → T (p b)
-  holds_of h = T_of (p b) (ap p (sym same) ∙ sym e ∙ h)
-
-  pub fails_of : r ≡ false → T (p b) → ⊥
-  fails_of h x = let z : T false = subst T (ap p (sym same) ∙ sym e ∙ h) x in z
-
-module _ (p : Fact → Fact → Bool) {a a' b b' : Fact} {r : Bool} (e : r ≡ p a b) (f : a ≡ a') (g : b ≡ b') where
-  pub holds-of-both : r ≡ true → T (p a' b')
-  holds-of-both h = subst (λ (x : Fact). T (p x b')) f (holds_of (p a) e g h)
-
-  pub fails-of-both : r ≡ false → T (p a' b') → ⊥
-  fails-of-both h x = fails_of (p a) e g h (subst (λ (y : Fact). T (p y b')) (sym f) x)
-
--- ---- rows
-
-facts-in : (row : List ℕ) (i n j : ℕ) → i ≤ j → j < i + n → row_fact row j ∈ items_from (row_fact row) i n
-unfolding items_from
-facts-in row i zero j a b = absurd (omega arith)
-facts-in row i (suc n) j a b =
-    ⊎_elim (λ (e : i ≡ j). Memᴰ.head (ap (row_fact row) (sym e))) (λ (l : i < j). Memᴰ.tail (facts-in row (suc i) n j l (omega arith))) (eq-or-lt_of_le a)
-
-in-facts : (row : List ℕ) (i n : ℕ) {a : Fact} → a ∈ items_from (row_fact row) i n → (j : ℕ) × (i ≤ j) × (j < i + n) × (row_fact row j ≡ a)
-unfolding items_from
-in-facts row i zero m = absurd (Memᴰ.not-nil m)
-in-facts row i (suc n) {a} m =
-    ⊎_elim (λ (h : a ≡ row_fact row i). (i, omega arith, omega arith, sym h))
-    (λ (h : a ∈ items_from (row_fact row) (suc i) n). let r = in-facts row (suc i) n h in (r.0, omega (arith, r.1), omega (arith, r.2), r.3)) (Memᴰ.cases_cons m)
-
--- the facts of a row are those at its places
-pub fact-in : (row : List ℕ) {n : ℕ} (i : ℕ) → i < n → row_fact row i ∈ facts_of row n
-fact-in row {n} i h = facts-in row 0 n i (omega arith) (omega arith)
-
-pub place_of : (row : List ℕ) (n : ℕ) {a : Fact} → a ∈ facts_of row n → (i : ℕ) × (i < n) × (row_fact row i ≡ a)
-place_of row n m = let r = in-facts row 0 n m in (r.0, omega (arith, r.2), r.3)
 
 -- ---- marks
 
@@ -101,10 +47,6 @@ pub to-most : {n : ℕ} {s : State} → Ordered n s → s.to ≤ 1024
 to-most {s = s} o = omega (arith, marked-most s.mark, o.all, o.marks)
 
 -- ---- one push
-
--- the state with the place j marked m and queued
-abbrev pub pushed : State → ℕ → ℕ → State
-pushed s j m = record { mark = set s.mark j m; queue = set s.queue s.to j; from = s.from; to = s.to + 1 }
 
 pub old-place : (s : State) (j m q : ℕ) → q < s.to → place_at (pushed s j m) q ≡ place_at s q
 old-place s j m q l = get_or-set_other s.queue s.to q j 0 (λ e. omega (arith, e))
@@ -150,10 +92,10 @@ module _ (n : ℕ) (s : State) (j : ℕ) (few : n ≤ 1024) (o : Ordered n s) (h
 
 -- ---- the empty state
 
-pub zeros-at : (m k : ℕ) → ◌≡◌ {A = ℕ} (get_or (replicate m 0) k 0) 0
-zeros-at zero k = refl
-zeros-at (suc m) zero = refl
-zeros-at (suc m) (suc k) = zeros-at m k
+pub blank-at : {A : Type 0} (d : A) (m k : ℕ) → get_or (replicate m d) k d ≡ d
+blank-at d zero k = refl
+blank-at d (suc m) zero = refl
+blank-at d (suc m) (suc k) = blank-at d m k
 
 zeros-marked : (m : ℕ) → marked (replicate m 0) ≡ 0
 unfolding marked
@@ -161,7 +103,7 @@ zeros-marked zero = refl
 zeros-marked (suc m) = zeros-marked m
 
 pub unmarked : (i : ℕ) → mark_at empty i ≡ 0
-unmarked i = zeros-at 1024 i
+unmarked i = blank-at 0 1024 i
 
 pub empty-ordered : (n : ℕ) → Ordered n empty
 empty-ordered n = record {

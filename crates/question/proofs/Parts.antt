@@ -1,23 +1,31 @@
--- The part of the row that may follow a fact, found by binary search and passed once.
+-- The part of the facts that may follow a fact, found by binary search and passed once.
 -- Assumes nothing.
 use mathlib.Core.Path.{◌≡◌, refl, sym, ap, ◌∙◌, subst}
 use mathlib.Core.Logic.{⊎_elim}
-use mathlib.Core.Bool.{Bool, true, false, true≢false}
+use mathlib.Core.Bool.{Bool, true, false, not, ◌||◌, true≢false}
 use mathlib.Core.List.{List}
-use Prim.Native.Nat.{ℕ, ◌+◌, ◌≤◌, ◌<◌}
+use Prim.Native.Nat.{ℕ, ◌+◌, ◌-◌, ◌≤◌, ◌<◌}
 use native.Mathlib.Omega.{arith}
-use lib.ListN.{get_or, set, replicate}
-use lib.Seq.{get_or-set_other}
-use lib.Dec.{T}
-use borrow.Author.Tests.{le-leb, lt-leb}
+use lib.ListN.{length, get_or, set, drop, replicate, length-drop}
+use lib.Seq.{get_or-drop, get_or-set_other}
+use lib.Dec.{T, leb, ltb}
+use Rattle.std.specs.List.{prefix_len}
+use Rattle.std.specs.List.Sorted.{IsPartitionPoint, IsPartitionedBy}
+use Rattle.std.proofs.lemmas.List.Sums.{prefix_len-le-length, prefix_len_passes, prefix_len_stops}
+use Rattle.std.proofs.lemmas.List.Sorted.{IsPartitionedBy-ltb, IsNonDecreasingBy-from_default}
+use Rattle.facts.specs.Facts.{fact}
+use borrow.Author.Tests.{lt-leb, leb-true, leb-false, ltb-true, ltb-false}
+use Rattle.std.specs.Prelude.{Option as Maybe, None, Some, IfSome}
 use Rattle.facts.specs.declared.Fact.{Fact}
+use Rattle.question.specs.declared.Part.{Part}
 use Rattle.facts.proofs.Terms.{by_cases}
-use Rattle.table.specs.Tables.{row_fact}
+use Rattle.rules.specs.Chosen.{fact_in}
 use Rattle.rules.specs.Paths.{next, link, property, chain, only_table, goes_on}
 use Rattle.rules.proofs.Paths.{next-says, only-says}
-use Rattle.question.specs.Row.{subject_at, Cut, Rising, Ends, may_come_before}
-use Rattle.question.specs.State.{slot_of, spare, PartOf, part, none, shut, passed}
-use Rattle.question.proofs.Laws.{equal-or, most-or, zeros-at}
+use Rattle.question.specs.Row.{subject_at, Cut, Rising, may_come_before}
+use Rattle.question.specs.Trace.{AtMost}
+use Rattle.question.specs.State.{slot_of, MayFollow, NoneLeft, absent, shut, passed}
+use Rattle.question.proofs.Laws.{equal-or, most-or, blank-at}
 
 -- what may follow depends on where a fact leads, whether to a property, and whether a chain goes on
 next-same : (w : ℕ) (a c b : Fact) → link a ≡ link c → property a ≡ property c → goes_on w a ≡ goes_on w c → T (next w a b) → T (next w c b)
@@ -40,109 +48,122 @@ slot-only false false l m a b e = (refl, e)
 slot-only true false l m a b e = absurd (omega arith)
 slot-only false true l m a b e = absurd (omega arith)
 
-pub slot-most : (p : Bool) {l n : ℕ} → l ≤ n → slot_of p l ≤ n + 1025
-slot-most true h = omega arith
-slot-most false h = omega arith
+-- ---- the ends of the part with the subject x
 
--- what has been found of the part that may follow a: where it begins, where that is noted, and where it ends
-module _ (row : List ℕ) (n w : ℕ) (a : Fact) (done : List ℕ) {x lo hi d : ℕ} {on : Bool} (e : x ≡ link a) (low : Cut row n x lo) (is : d ≡ slot_of (property a) lo) (g : on ≡ goes_on w a)
-    (ends : Ends row n x lo (get_or done d 0) on hi) where
-  pub part-some : lo < hi → PartOf row n w a done lo hi d
-  part-some h =
-      rw is (equal-or (get_or done d 0) 0
-      (λ y. by_cases (goes_on w a) (λ o. part o (rw e at low) (rw e at (ends.fresh y (g ∙ o))) h) (λ o. absurd (omega (arith, ends.shut (g ∙ o)))))
-      (λ y. absurd (omega (arith, ends.again y))))
+module _ (facts : List Fact) (x : ℕ) (rising : Rising facts) where
+  -- what a search by halves finds
+  pub point-cut : (r : ℕ) → r ≤ length facts → IsPartitionPoint (λ f. ltb f.subject x ≡ true) (λ f. ltb f.subject x ≡ false) facts r → Cut facts x r
+  point-cut r within point = record {
+    within = within;
+    below = λ k l. ltb-true _ _ (point.0 k (fact 0 0 0) (omega arith) l);
+    above = λ k l m. ltb-false _ _ (point.1 k (fact 0 0 0) l m);
+  }
 
-  pub part_none : hi ≤ lo → PartOf row n w a done lo lo spare
-  part_none h =
-      by_cases (goes_on w a)
-      (λ o. equal-or (get_or done d 0) 0
-      (λ y. let k = ends.fresh y (g ∙ o) in
-      none (rw e at low) (record { within = low.within; below = λ i l. omega (arith, low.below i l, e); above = λ i l m. omega (arith, k.above i (omega arith) m, e) }))
-      (λ y. passed o (rw e at low) (rw is at y)))
-      (λ o. shut o low.within)
+  pub point-asked : IsPartitionedBy (λ f. ltb f.subject x) facts
+  point-asked = IsPartitionedBy-ltb (λ f. f.subject) facts x (IsNonDecreasingBy-from_default (λ f. f.subject) facts (fact 0 0 0) rising.rises)
 
-pub part-within : {row : List ℕ} {n w : ℕ} {a : Fact} {done : List ℕ} {lo hi d : ℕ} → n ≤ 1024 → PartOf row n w a done lo hi d → (hi ≤ n) × (d ≤ spare)
-part-within {a = a} few (part o low high h) = (high.within, omega (arith, slot-most (property a) low.within))
-part-within few (none low high) = (low.within, omega arith)
-part-within few (shut o h) = (h, omega arith)
-part-within few (passed o low h) = (low.within, omega arith)
+  -- and behind it, a walk
+  pub run-cut : (lo r : ℕ) → Cut facts x lo → r ≡ lo + prefix_len (λ f. leb f.subject x) (drop lo facts) → Cut facts (x + 1) r
+  run-cut lo r low is =
+      let p : Fact → Bool = λ f. leb f.subject x in
+      let rest : List Fact = drop lo facts in
+      let size : length rest ≡ length facts - lo = length-drop lo facts in
+      let at : (j : ℕ) → (get_or rest j (fact 0 0 0)).subject ≡ subject_at facts (lo + j) = λ j. ap (λ (f : Fact). f.subject) (get_or-drop lo facts j (fact 0 0 0)) in
+      record {
+        within = omega (arith, prefix_len-le-length p rest, low.within);
+        below = λ k l. most-or lo k
+            (λ u. let e : lo + (k - lo) ≡ k = omega arith in
+            omega (arith, leb-true _ _ (prefix_len_passes p rest (k - lo) (fact 0 0 0) (omega arith)), at (k - lo), ap (subject_at facts) e))
+            (λ u. omega (arith, low.below k u));
+        above = λ k l m. omega (arith, leb-false _ _ (prefix_len_stops p rest (fact 0 0 0) (omega (arith, low.within))), at (prefix_len p rest), ap (subject_at facts) is, rising.rises r k l m);
+      }
+
+-- no part is left, where it is noted as passed or no chain goes on, and where it is empty
+module _ (facts : List Fact) (w : ℕ) (a : Fact) (done : List Bool) {x lo d : ℕ} (e : x ≡ link a) (low : Cut facts x lo) (is : d ≡ slot_of (property a) lo) where
+  pub none-shut : {on : Bool} → on ≡ goes_on w a → get_or done d false || not on ≡ true → NoneLeft facts w a done
+  none-shut {on} g h = by_cases (get_or done d false) (λ y. passed (rw e at low) (rw is at y)) (λ y. shut (sym g ∙ off on (rw y at h)))
+    where
+      off : (b : Bool) → not b ≡ true → b ≡ false
+      off true z = absurd (true≢false (sym z))
+      off false z = refl
+
+  pub part-is : {hi : ℕ} {on : Bool} → on ≡ goes_on w a → get_or done d false || not on ≡ false → Cut facts (x + 1) hi → lo < hi → MayFollow facts w a (record { from = lo; to = hi; slot = d })
+  part-is {hi} {on} g h high some = record { on = sym g ∙ go (get_or done d false) on h; low = rw e at low; high = rw e at high; some = some; slot = is }
+    where
+      go : (b c : Bool) → b || not c ≡ false → c ≡ true
+      go true c z = absurd (true≢false z)
+      go false true z = refl
+      go false false z = absurd (true≢false z)
+
+  pub none-empty : {hi : ℕ} → Cut facts (x + 1) hi → hi ≤ lo → NoneLeft facts w a done
+  none-empty {hi} high h =
+      absent (rw e at low) (record { within = low.within; below = λ i l. omega (arith, low.below i l, e); above = λ i l m. omega (arith, high.above i (omega arith) m, e) })
 
 -- a place is marked
 abbrev pub Marked : List ℕ → ℕ → Type 0
 Marked mark b = 0 < get_or mark b 0
 
 -- P of each place that may follow another: that it is marked, say
-module _ (row : List ℕ) (n w : ℕ) where
+module _ (facts : List Fact) (w : ℕ) where
   abbrev pub Followed : (ℕ → Type 0) → ℕ → Type 0
-  Followed P i = (b : ℕ) → b < n → T (next w (row_fact row i) (row_fact row b)) → P b
+  Followed P i = (b : ℕ) → b < length facts → T (next w (fact_in facts i) (fact_in facts b)) → P b
 
   -- what is noted as passed: P of all that may follow a place that leads to the part
-  pub record Noted (P : ℕ → Type 0) (done : List ℕ) : Type 0 where
-    pub all : (l : ℕ) → l < n → (p : Bool) → (get_or done (slot_of p l) 0 ≡ 0 → ⊥) → (i : ℕ) → link (row_fact row i) ≡ subject_at row l → property (row_fact row i) ≡ p
-        → goes_on w (row_fact row i) ≡ true → Followed P i
+  pub record Noted (P : ℕ → Type 0) (done : List Bool) : Type 0 where
+    pub all : (l : ℕ) → l < length facts → (p : Bool) → (get_or done (slot_of p l) false ≡ true) → (i : ℕ) → link (fact_in facts i) ≡ subject_at facts l → property (fact_in facts i) ≡ p
+        → goes_on w (fact_in facts i) ≡ true → Followed P i
 
-  pub note-none : (P : ℕ → Type 0) (m : ℕ) → Noted P (replicate m 0)
-  note-none P m = record { all = λ l h p f. absurd (f (zeros-at m (slot_of p l))) }
+  pub note-none : (P : ℕ → Type 0) (m : ℕ) → Noted P (replicate m false)
+  note-none P m = record { all = λ l h p f. absurd (true≢false (sym f ∙ blank-at false m (slot_of p l))) }
 
-  pub note-more : {P Q : ℕ → Type 0} {done : List ℕ} → ((b : ℕ) → P b → Q b) → Noted P done → Noted Q done
+  pub note-more : {P Q : ℕ → Type 0} {done : List Bool} → ((b : ℕ) → P b → Q b) → Noted P done → Noted Q done
   note-more f note = record { all = λ l h p g i e e' o b u y. f b (note.all l h p g i e e' o b u y) }
 
   module _ (P : ℕ → Type 0) where
     -- only facts of the part may follow
-    in-part : (i lo hi j : ℕ) → Cut row n (link (row_fact row i)) lo → Cut row n (link (row_fact row i) + 1) hi → hi ≤ j
-        → ((b : ℕ) → lo ≤ b → b < j → T (next w (row_fact row i) (row_fact row b)) → P b) → Followed P i
+    in-part : (i lo hi j : ℕ) → Cut facts (link (fact_in facts i)) lo → Cut facts (link (fact_in facts i) + 1) hi → hi ≤ j
+        → ((b : ℕ) → lo ≤ b → b < j → T (next w (fact_in facts i) (fact_in facts b)) → P b) → Followed P i
     in-part i lo hi j low high l done v u y =
-        let z = (next-says w (row_fact row i) (row_fact row v) y).0 in
+        let z = (next-says w (fact_in facts i) (fact_in facts v) y).0 in
         done v (most-or lo v (λ c. c) (λ c. absurd (omega (arith, low.below v c, z)))) (most-or hi v (λ c. absurd (omega (arith, high.above v c u, z))) (λ c. omega arith)) y
 
-    -- and where the part was passed before, it is so already
-    in-noted : (i lo : ℕ) (done : List ℕ) → Rising row n → Cut row n (link (row_fact row i)) lo → Noted P done → goes_on w (row_fact row i) ≡ true
-        → (get_or done (slot_of (property (row_fact row i)) lo) 0 ≡ 0 → ⊥) → Followed P i
-    in-noted i lo done rising low note on h v u y =
-        let z = (next-says w (row_fact row i) (row_fact row v) y).0 in
-        let c : lo ≤ v = most-or lo v (λ c. c) (λ c. absurd (omega (arith, low.below v c, z))) in
-        let same : link (row_fact row i) ≡ subject_at row lo = omega (arith, rising.rises lo v c u, low.above lo (omega arith) (omega arith), z) in
-        note.all lo (omega arith) (property (row_fact row i)) h i same refl on v u y
-
     -- after the pass over the part that may follow a place, P holds of all that may follow it
-    pub part-passed : (i j : ℕ) {done : List ℕ} {lo hi d : ℕ} → Rising row n → PartOf row n w (row_fact row i) done lo hi d
-        → ((b : ℕ) → lo ≤ b → b < j → T (next w (row_fact row i) (row_fact row b)) → P b) → Noted P done → hi ≤ j → Followed P i
-    part-passed i j r (part {from = lo} {to = hi} o low high h) f note l = in-part i lo hi j low high l f
-    part-passed i j r (none {from = lo} low high) f note l = in-part i lo lo j low high l f
-    part-passed i j r (shut o h) f note l = λ b u y. absurd (next-none w (row_fact row i) (row_fact row b) o y)
-    part-passed i j {done} r (passed {from = lo} o low h) f note l = in-noted i lo done r low note o h
+    pub part-passed : (i j : ℕ) {p : Part} → MayFollow facts w (fact_in facts i) p
+        → ((b : ℕ) → p.from ≤ b → b < j → T (next w (fact_in facts i) (fact_in facts b)) → P b) → p.to ≤ j → Followed P i
+    part-passed i j {p} d f l = in-part i p.from p.to j d.low d.high l f
 
-    -- where it may not come before `at`, what may follow a place stands behind
-    pub behind-passed : (i at : ℕ) → Rising row n → may_come_before row n (row_fact row i) at ≡ false → ((b : ℕ) → at ≤ b → P b) → Followed P i
+    -- and where no part is left, it is so already
+    pub none-passed : (i : ℕ) {done : List Bool} → Rising facts → NoneLeft facts w (fact_in facts i) done → Noted P done → Followed P i
+    none-passed i r (absent {from = lo} low high) note = in-part i lo lo lo low high (omega arith) (λ b l u y. absurd (omega arith))
+    none-passed i r (shut o) note = λ b u y. absurd (next-none w (fact_in facts i) (fact_in facts b) o y)
+    none-passed i {done} r (passed {from = lo} low h) note = λ v u y.
+        by_cases (goes_on w (fact_in facts i)) (λ on.
+        let z = (next-says w (fact_in facts i) (fact_in facts v) y).0 in
+        let c : lo ≤ v = most-or lo v (λ c. c) (λ c. absurd (omega (arith, low.below v c, z))) in
+        let same : link (fact_in facts i) ≡ subject_at facts lo = omega (arith, r.rises lo v c u, low.above lo (omega arith) (omega arith), z) in
+        note.all lo (omega arith) (property (fact_in facts i)) h i same refl on v u y)
+        (λ off. absurd (next-none w (fact_in facts i) (fact_in facts v) off y))
+
+    -- where it may not come before the place given, what may follow a place stands behind that
+    pub behind-passed : (i : ℕ) (at : Maybe ℕ) → Rising facts → IfSome at (λ j. j < length facts) → may_come_before facts (fact_in facts i) at ≡ false → ((b : ℕ) → AtMost at b → P b) → Followed P i
     unfolding may_come_before
-    behind-passed i at rising e f v u y =
-        let z = (next-says w (row_fact row i) (row_fact row v) y).0 in
-        f v (most-or at v (λ c. c) (λ c. most-or n at (λ k. absurd (true≢false (sym (rw (le-leb n at k) refl) ∙ e))) (λ k.
-        most-or (link (row_fact row i)) (subject_at row at) (λ o. absurd (true≢false (sym (rw (lt-leb n at k, le-leb (link (row_fact row i)) (subject_at row at) o) refl) ∙ e)))
-        (λ o. absurd (omega (arith, rising.rises v at (omega arith) k, o, z))))))
-
-    note-part : (i lo hi : ℕ) (done : List ℕ) → n ≤ 1024 → Cut row n (link (row_fact row i)) lo → Cut row n (link (row_fact row i) + 1) hi → lo < hi → goes_on w (row_fact row i) ≡ true
-        → Followed P i → Noted P done → Noted P (set done (slot_of (property (row_fact row i)) lo) 1)
-    note-part i lo hi done few low high some on here note =
-        let own : ℕ = slot_of (property (row_fact row i)) lo in
-        record {
-          all = λ l h p f v g g' o. equal-or (slot_of p l) own
-              (λ a.
-              let z = slot-only p (property (row_fact row i)) l lo (omega arith) (omega (arith, high.within)) a in
-              let b : link (row_fact row v) ≡ link (row_fact row i) = omega (arith, g, ap (subject_at row) z.1, low.above lo (omega arith) (omega (arith, high.within)), high.below lo some) in
-              λ b' u y. here b' u (next-same w (row_fact row v) (row_fact row i) (row_fact row b') b (g' ∙ z.0) (o ∙ sym on) y))
-              (λ a. note.all l h p (λ y. f (get_or-set_other done own (slot_of p l) 1 0 a ∙ y)) v g g' o);
-        }
-
-    note-spare : (done : List ℕ) → n ≤ 1024 → Noted P done → Noted P (set done spare 1)
-    note-spare done few note = record {
-      all = λ l h p f v g g' o. note.all l h p (λ y. f (get_or-set_other done spare (slot_of p l) 1 0 (λ e. omega (arith, e, slot-most p {l = l} {n = 1023} (omega arith))) ∙ y)) v g g' o;
-    }
+    behind-passed i None rising here e f v u y = absurd (true≢false e)
+    behind-passed i (Some at) rising here e f v u y =
+        let z = (next-says w (fact_in facts i) (fact_in facts v) y).0 in
+        let n : leb (length facts) at ≡ false = lt-leb (length facts) at here in
+        let l = leb-false (link (fact_in facts i)) (subject_at facts at) (rw n at e) in
+        f v (most-or at v (λ c. c) (λ c. absurd (omega (arith, rising.rises v at (omega arith) here, z, l))))
 
     -- and that may be noted
-    pub part-noted : (i : ℕ) {done : List ℕ} {lo hi d : ℕ} → n ≤ 1024 → PartOf row n w (row_fact row i) done lo hi d → Followed P i → Noted P done → Noted P (set done d 1)
-    part-noted i {done} few (part {from = lo} {to = hi} o low high h) here note = note-part i lo hi done few low high h o here note
-    part-noted i few (none low high) here note = note-spare _ few note
-    part-noted i few (shut o h) here note = note-spare _ few note
-    part-noted i few (passed o low h) here note = note-spare _ few note
+    pub part-noted : (i : ℕ) {done : List Bool} {q : Part} → length facts ≤ 1024 → MayFollow facts w (fact_in facts i) q → Followed P i → Noted P done → Noted P (set done q.slot true)
+    part-noted i {done} {q} few d here note =
+        let own : ℕ = slot_of (property (fact_in facts i)) q.from in
+        rw d.slot record {
+          all = λ l h p f v g g' o. equal-or (slot_of p l) own
+              (λ a.
+              let z = slot-only p (property (fact_in facts i)) l q.from (omega arith) (omega (arith, d.high.within, d.some)) a in
+              let b : link (fact_in facts v) ≡ link (fact_in facts i) =
+              omega (arith, g, ap (subject_at facts) z.1, d.low.above q.from (omega arith) (omega (arith, d.high.within, d.some)), d.high.below q.from d.some) in
+              λ b' u y. here b' u (next-same w (fact_in facts v) (fact_in facts i) (fact_in facts b') b (g' ∙ z.0) (o ∙ sym d.on) y))
+              (λ a. note.all l h p (sym (get_or-set_other done own (slot_of p l) true false a) ∙ f) v g g' o);
+        }

@@ -4,39 +4,34 @@ use mathlib.Core.Path.{◌≡◌, refl, sym, ap, ◌∙◌}
 use mathlib.Core.Logic.{⊎_elim}
 use mathlib.Core.Option
 use mathlib.Core.Option.{Option, none, some}
+use Rattle.std.specs.Prelude.{Option as Maybe, None, Some}
+use Rattle.std.proofs.lemmas.Option.{none-some, same_Some}
 use mathlib.Core.List.Memᴰ
-use mathlib.Core.List.{List, [], ◌∷◌, ◌++◌, map}
-use Prim.Native.Nat.{ℕ, suc, ◌+◌, ◌*◌, ◌≤◌, ◌<◌}
-use native.Mathlib.Nat.{zero-add}
+use mathlib.Core.List.{List, [], ◌∷◌}
+use Prim.Native.Nat.{ℕ, suc, ◌≤◌, ◌<◌}
 use native.Mathlib.Omega.{arith}
-use lib.ListN.{length, get_or, take, drop, length-append, length-map, get_or-append, get_or-map}
+use lib.ListN.{length, get_or, take}
 use lib.Seq.{take_at}
 use lib.Dec.{eqb}
 use borrow.Author.Tests.{le-leb, lt-leb}
 use Rattle.columns.specs.Lines.{over}
-use Rattle.columns.proofs.Lists.{items-length, items-listed}
 use Rattle.facts.specs.declared.Fact.{Fact}
-use Rattle.facts.specs.declared.Answer.TheVariants.{Yes, No, Long}
+use Rattle.facts.specs.Results.{Yes, No, Long}
 use Rattle.facts.specs.Terms.{sp}
 use Rattle.facts.specs.Gaps.{filling_of}
 use Rattle.facts.proofs.Terms.{by_cases}
-use Rattle.table.specs.Tables.{row_fact}
 use Rattle.rules.specs.Graph.{◌∈◌}
 use Rattle.rules.specs.declared.Line.{Line}
 use Rattle.rules.specs.Paths.{named, fewest}
-use Rattle.rules.specs.Printed.{printed, print_order, conclusion}
+use Rattle.rules.specs.Printed.{printed, conclusion}
 use Rattle.derivation.specs.Bytes.{derivation_bytes}
 use Rattle.rules.specs.Chosen.{chosen, fact_in, place_behind, print_places}
 use Rattle.rules.proofs.Graph.{at_place}
 use Rattle.rules.proofs.Printed.{path-pos}
 use Rattle.rules.proofs.Chosen.{least-below, chosen-fewest, chosen-path, print-places}
-use Rattle.question.specs.declared.Found.{Found}
-use Rattle.question.specs.declared.Found.TheVariants.{Nothing, Facts}
-use Rattle.question.specs.Row.{facts_of}
 use Rattle.question.specs.Answer.{found_of, places_of, Finds}
 use Rattle.question.specs.Order.{Placed, InPrint, facts_at}
 use Rattle.question.specs.Question.{answer_by, answer_of, derivation_of, derivation_for, filling_for, written, printed_for}
-use Rattle.question.proofs.Back.{at_fact}
 
 -- ---- the same places, in printed order
 
@@ -67,10 +62,6 @@ module _ (at : ℕ → Fact) where
   order-long [] = refl
   order-long (x ∷ xs) = by_cases (named (at x).predicate) (λ e. rw e (behind-long x xs)) (λ e. rw e refl)
 
-map_same : {p q : ℕ → Fact} (l : List ℕ) → ((i : ℕ) → i ∈ l → p i ≡ q i) → map p l ≡ map q l
-map_same [] h = refl
-map_same (x ∷ xs) h = rw (h x (Memᴰ.head refl), map_same xs (λ i m. h i (Memᴰ.tail m))) refl
-
 -- a yes by its count
 by-yes : (limit f x : ℕ) {o : Option ℕ} → o ≡ some f → f ≤ limit → answer_by limit o x ≡ Yes f x
 unfolding answer_by
@@ -78,104 +69,86 @@ by-yes limit f x e h = rw (e, le-leb f limit h)
 
 -- ---- an answer with f facts
 
-module _ (row : List ℕ) (n : ℕ) (t : Fact) (before after : List ℕ) {r : Found} (f : ℕ) (is : r ≡ Facts f) (a : Finds row n t before after r) where
+module _ (facts : List Fact) (t : Fact) (before after : List ℕ) {r : Maybe ℕ} (f : ℕ) (is : r ≡ Some f) (a : Finds facts t before after r) where
   -- it has the f places of the chosen path
   pub record Chosen : Type 0 where
     pub places : List ℕ
-    pub chosen : chosen (facts_of row n) t ≡ some places
+    pub chosen : chosen facts t ≡ some places
     pub count : length places ≡ f
     pub written : after ≡ over places before
 
   pub found-chosen : Chosen
-  found-chosen = go (chosen (facts_of row n) t) refl a.result a.places
+  found-chosen = go (chosen facts t) refl a.result a.places
     where
-      go : (o : Option (List ℕ)) → chosen (facts_of row n) t ≡ o → r ≡ found_of o → after ≡ places_of o before → Chosen
-      go none x y z = let u : ◌≡◌ {A = ℕ} 0 1 = cc in absurd (omega arith)
-      go (some l) x y z = record { places = l; chosen = x; count = cc; written = z }
+      go : (o : Option (List ℕ)) → chosen facts t ≡ o → r ≡ found_of o → after ≡ places_of o before → Chosen
+      go none x y z = absurd (none-some f (sym y ∙ is))
+      go (some l) x y z = record { places = l; chosen = x; count = same_Some (length l) f (sym y ∙ is); written = z }
 
-  pub found-fewest : fewest (facts_of row n) t ≡ some f
-  found-fewest = let c = found-chosen in sym (chosen-fewest (facts_of row n) t) ∙ ap (Option.map length) c.chosen ∙ ap some c.count
+  pub found-fewest : fewest facts t ≡ some f
+  found-fewest = let c = found-chosen in sym (chosen-fewest facts t) ∙ ap (Option.map length) c.chosen ∙ ap some c.count
 
-  pub found-few : f ≤ n
+  pub found-few : f ≤ length facts
   unfolding fewest
-  found-few = omega (arith, least-below _ 1 (length (facts_of row n)) f found-fewest, items-length (row_fact row) 0 n)
+  found-few = omega (arith, least-below _ 1 (length facts) f found-fewest)
 
-  -- so many places, each with a fact of the row
-  module _ (whole : 3 * n ≤ length row) where
-    placed : (l after' rest : List ℕ) → 0 < f → length l ≡ f → after' ≡ l ++ rest → ((i : ℕ) → i ∈ l → i < n) → Placed row n f after'
-    placed l after' rest pos long e inside = record {
-      whole = whole;
-      some = pos;
-      room = omega (arith, ap length e, length-append l rest, long);
-      inside = λ k h.
-          let x : get_or after' k 0 ≡ get_or l k 0 = ap (λ (y : List ℕ). get_or y k 0) e ∙ get_or-append l rest 0 k (omega (arith, long)) in
-          omega (arith, x, inside (get_or l k 0) (at_place 0 l k (omega (arith, long))));
-    }
+  -- they stand in front
+  pub found-front : take f after ≡ found-chosen.places
+  found-front = let c = found-chosen in ap (take f) c.written ∙ take_at c.places _ f c.count
 
-    found_some : 0 < f
-    found_some = let c = found-chosen in let s = chosen-path (facts_of row n) t c.places c.chosen in omega (arith, path-pos s.path.path, s.count, c.count)
+  -- each of them has a fact
+  placed : (l : List ℕ) → length l ≡ f → ((i : ℕ) → i ∈ l → i < length facts) → Placed facts l
+  placed l long inside =
+      let s = chosen-path facts t found-chosen.places found-chosen.chosen in
+      record { some = omega (arith, path-pos s.path.path, s.count, found-chosen.count, long); inside = λ k h. inside (get_or l k 0) (at_place 0 l k h) }
 
-    found_inside : (i : ℕ) → i ∈ found-chosen.places → i < n
-    found_inside i m = let c = found-chosen in omega (arith, (chosen-path (facts_of row n) t c.places c.chosen).inside i m, items-length (row_fact row) 0 n)
+  found_inside : (i : ℕ) → i ∈ found-chosen.places → i < length facts
+  found_inside = (chosen-path facts t found-chosen.places found-chosen.chosen).inside
 
-    pub found-placed : Placed row n f after
-    found-placed = let c = found-chosen in placed c.places after (drop (length c.places) before) found_some c.count c.written found_inside
+  pub found-placed : Placed facts (take f after)
+  found-placed = rw found-front (placed found-chosen.places found-chosen.count found_inside)
 
-    -- and after `print_order`
-    module _ (after' : List ℕ) (p : InPrint row f after after') where
-      ordered : after' ≡ print_places (row_fact row) found-chosen.places ++ drop f after
-      ordered = let c = found-chosen in p ∙ ap (λ (l : List ℕ). print_places (row_fact row) l ++ drop f after) (ap (take f) c.written ∙ take_at c.places _ f c.count)
+  -- and after `print_order`
+  module _ (after' : List ℕ) (p : InPrint facts (take f after) after') where
+    ordered : after' ≡ print_places (fact_in facts) found-chosen.places
+    ordered = p ∙ ap (print_places (fact_in facts)) found-front
 
-      pub print-placed : Placed row n f after'
-      print-placed =
-          let c = found-chosen in
-          placed (print_places (row_fact row) c.places) after' (drop f after) found_some (order-long (row_fact row) c.places ∙ c.count) ordered (λ i m. found_inside i (order-in (row_fact row)
-          c.places m))
+    pub print-long : length after' ≡ f
+    print-long = rw ordered (order-long (fact_in facts) found-chosen.places ∙ found-chosen.count)
 
-      -- the facts at the places are those of the chosen path in printed order
-      pub print-facts : facts_at row after' f ≡ print_order (map (fact_in (facts_of row n)) found-chosen.places)
-      print-facts =
-          let c = found-chosen in
-          let l = print_places (row_fact row) c.places in
-          let long : length l ≡ f = order-long (row_fact row) c.places ∙ c.count in
-          let size : length (map (row_fact row) l) ≡ f = length-map l (row_fact row) ∙ long in
-          let here : (j : ℕ) → j < length (map (row_fact row) l) → row_fact row (get_or after' (0 + j) 0) ≡ get_or (map (row_fact row) l) j (row_fact row 0) =
-          λ j h. ap (λ (i : ℕ). row_fact row (get_or after' i 0)) (zero-add j)
-          ∙ ap (row_fact row) (ap (λ (y : List ℕ). get_or y j 0) ordered ∙ get_or-append l (drop f after) 0 j (omega (arith, h, size, long))) ∙ sym (get_or-map (row_fact row) l j 0) in
-          ap (facts_at row after') (sym size) ∙ items-listed (λ i. row_fact row (get_or after' i 0)) (map (row_fact row) l) 0 (row_fact row 0) here ∙ print-places (row_fact row) c.places
-          ∙ ap print_order (map_same c.places (λ i m. sym (at_fact row n i (found_inside i m))))
+    pub print-placed : Placed facts after'
+    print-placed =
+        let l = found-chosen.places in
+        rw ordered (placed (print_places (fact_in facts) l) (order-long (fact_in facts) l ∙ found-chosen.count) (λ i m. found_inside i (order-in (fact_in facts) l m)))
 
-  -- ---- the answer, and the output
+    -- the derivation of the facts there is the one that is meant
+    found-derivation : printed (facts_at facts after') ≡ derivation_for facts t
+    unfolding derivation_for derivation_of
+    found-derivation = rw (ordered, print-places (fact_in facts) found-chosen.places, found-chosen.chosen) refl
 
-  pub settle-long : (limit : ℕ) (output : List ℕ) → limit < f → (Long f ≡ answer_of (facts_of row n) t limit) × (output ≡ written (Long f) (printed_for (facts_of row n) t) output)
+    -- and so is the term named
+    found-filling : (x : ℕ) → x ≡ filling_of t (conclusion (printed (facts_at facts after'))) → x ≡ filling_for facts t
+    unfolding filling_for
+    found-filling x e = e ∙ ap (λ (l : List Line). filling_of t (conclusion l)) found-derivation
+
+    -- ---- the answer, and the output
+
+    pub settle-yes : (limit : ℕ) (entry exit : List ℕ) (x : ℕ) → f ≤ limit → x ≡ filling_of t (conclusion (printed (facts_at facts after')))
+        → exit ≡ over (derivation_bytes (printed (facts_at facts after'))) entry → (Yes f x ≡ answer_of facts t limit) × (exit ≡ written (Yes f x) (printed_for facts t) entry)
+    unfolding answer_of written printed_for
+    settle-yes limit entry exit x h e g = (
+      ap (Yes f) (found-filling x e) ∙ sym (by-yes limit f (filling_for facts t) found-fewest h),
+      g ∙ ap (λ (l : List Line). over (derivation_bytes l) entry) found-derivation,
+    )
+
+  pub settle-long : (limit : ℕ) (output : List ℕ) → limit < f → (Long f ≡ answer_of facts t limit) × (output ≡ written (Long f) (printed_for facts t) output)
   unfolding answer_of answer_by written
   settle-long limit output h = (rw (found-fewest, lt-leb f limit h), refl)
 
-  -- the derivation is that of the facts at the places
-  found-derivation : (after' : List ℕ) → 3 * n ≤ length row → InPrint row f after after' → printed (facts_at row after' f) ≡ derivation_for (facts_of row n) t
-  unfolding derivation_for derivation_of
-  found-derivation after' whole p = rw (print-facts whole after' p, found-chosen.chosen)
-
-  -- and so is the term named
-  found-filling : (after' : List ℕ) (x : ℕ) → 3 * n ≤ length row → InPrint row f after after' → x ≡ filling_of t (conclusion (printed (facts_at row after' f)))
-      → x ≡ filling_for (facts_of row n) t
-  unfolding filling_for
-  found-filling after' x whole p e = e ∙ ap (λ (l : List Line). filling_of t (conclusion l)) (found-derivation after' whole p)
-
-  pub settle-yes : (limit : ℕ) (entry exit after' : List ℕ) (x : ℕ) → f ≤ limit → 3 * n ≤ length row → InPrint row f after after'
-      → x ≡ filling_of t (conclusion (printed (facts_at row after' f))) → exit ≡ over (derivation_bytes (printed (facts_at row after' f))) entry
-      → (Yes f x ≡ answer_of (facts_of row n) t limit) × (exit ≡ written (Yes f x) (printed_for (facts_of row n) t) entry)
-  unfolding answer_of written printed_for
-  settle-yes limit entry exit after' x h whole p e g = (
-    ap (Yes f) (found-filling after' x whole p e) ∙ sym (by-yes limit f (filling_for (facts_of row n) t) found-fewest h),
-    g ∙ ap (λ (l : List Line). over (derivation_bytes l) entry) (found-derivation after' whole p),
-  )
-
-pub settle-no : (row : List ℕ) (n : ℕ) (t : Fact) (before after : List ℕ) {r : Found} → r ≡ Nothing → Finds row n t before after r → (limit : ℕ) (output : List ℕ)
-    → (No ≡ answer_of (facts_of row n) t limit) × (output ≡ written No (printed_for (facts_of row n) t) output)
+pub settle-no : (facts : List Fact) (t : Fact) (before after : List ℕ) {r : Maybe ℕ} → r ≡ None → Finds facts t before after r → (limit : ℕ) (output : List ℕ)
+    → (No ≡ answer_of facts t limit) × (output ≡ written No (printed_for facts t) output)
 unfolding answer_of answer_by written
-settle-no row n t before after {r} is a limit output = go (chosen (facts_of row n) t) refl a.result
+settle-no facts t before after {r} is a limit output = go (chosen facts t) refl a.result
   where
-    go : (o : Option (List ℕ)) → chosen (facts_of row n) t ≡ o → r ≡ found_of o → (No ≡ answer_of (facts_of row n) t limit) × (output ≡ written No (printed_for (facts_of row n) t) output)
-    go none x y = let e : fewest (facts_of row n) t ≡ none = sym (chosen-fewest (facts_of row n) t) ∙ ap (Option.map length) x in (rw e, refl)
-    go (some l) x y = let u : ◌≡◌ {A = ℕ} 0 1 = cc in absurd (omega arith)
+    go : (o : Option (List ℕ)) → chosen facts t ≡ o → r ≡ found_of o → (No ≡ answer_of facts t limit) × (output ≡ written No (printed_for facts t) output)
+    go none x y = let e : fewest facts t ≡ none = sym (chosen-fewest facts t) ∙ ap (Option.map length) x in (rw e, refl)
+    go (some l) x y = absurd (none-some (length l) (sym is ∙ y))

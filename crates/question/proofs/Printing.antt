@@ -2,36 +2,30 @@
 -- Assumes nothing.
 use mathlib.Core.Path.{◌≡◌, refl, sym, ap, ◌∙◌}
 use mathlib.Core.List.{List, [], ◌∷◌, ◌++◌, append-nil}
-use Prim.Native.Nat.{ℕ, suc, ◌+◌, ◌-◌, ◌*◌, ◌≤◌, ◌<◌}
+use Prim.Native.Nat.{ℕ, suc, ◌+◌, ◌-◌, ◌*◌, ◌<◌}
 use native.Mathlib.Omega.{arith}
 use native.Mathlib.Nat.{zero-add}
 use native.Mathlib.Numerals.{add-one}
-use lib.ListN.{length, get_or, drop}
-use lib.Seq.{drop-drop, drop-append-add}
+use lib.ListN.{length, get_or, length-map, get_or-map}
 use lib.Dec.{eqb}
 use borrow.Author.Rules.{rules}
-use Rattle.columns.specs.Lines.{Below, over, flat, items_from}
-use Rattle.columns.proofs.Lists.{items-length, items_more, flat_append}
+use Rattle.columns.specs.Lines.{Below, flat, items_from}
+use Rattle.columns.proofs.Lists.{items-length, items-listed, items_more, flat_append}
 use Rattle.facts.specs.declared.Fact.{Fact}
+use Rattle.facts.specs.Facts.{fact}
 use Rattle.facts.specs.Terms.{sc, sp, dom, range}
 use Rattle.facts.proofs.Terms.{by_cases}
-use Rattle.table.specs.Tables.{terms, row_fact}
-use Rattle.table.proofs.Tables.{row_below}
+use Rattle.table.specs.Tables.{terms}
+use Rattle.table.proofs.Tables.{terms-below}
+use Rattle.table.proofs.Lists.{formed-at}
+use Rattle.rules.specs.Chosen.{fact_in}
 use Rattle.rules.specs.declared.Line.{Line}
 use Rattle.rules.specs.Derivations.{derivation_line}
 use Rattle.rules.specs.Paths.{named}
 use Rattle.rules.specs.Printed.{join, join_all, printed, conclusion}
 use Rattle.derivation.specs.Bytes.{line_numbers, line_bytes, derivation_bytes}
 use Rattle.derivation.proofs.Bytes.{derivation-length}
-use Rattle.question.specs.Order.{Printing}
-
--- a second piece, at least as long as the first, written over the front
-pub over-over : (X Y l : List ℕ) → length Y ≤ length X → over X (over Y l) ≡ over X l
-over-over X Y l h =
-    let e : length X ≡ length Y + (length X - length Y) = omega arith in
-    let d : drop (length X) (Y ++ drop (length Y) l) ≡ drop (length X) l =
-    ap (λ (k : ℕ). drop k (Y ++ drop (length Y) l)) e ∙ drop-append-add Y (drop (length Y) l) (length X - length Y) ∙ drop-drop (length X - length Y) (length Y) l ∙ ap (λ (k : ℕ). drop k l) (sym e) in
-    ap (λ (y : List ℕ). X ++ y) d
+use Rattle.question.specs.Order.{facts_at, Printing}
 
 pub two-lines : (k l : Line) → derivation_bytes (k ∷ l ∷ []) ≡ line_bytes k ++ line_bytes l
 unfolding flat
@@ -101,8 +95,8 @@ result-ends d (f ∷ fs) h = ends-in (derivation_line 0 0 0 f) f 1 fs refl
 -- ---- numbers
 
 -- the terms of a fact to print have at most five digits
-pub printing-below : {row places : List ℕ} {n f size : ℕ} → Printing row n f places size → (k : ℕ) → k < f → Below (terms (row_fact row (get_or places k 0)))
-printing-below {row} {places} {n} p k h = row_below row n (get_or places k 0) p.formed (p.placed.inside k h)
+pub printing-below : {facts : List Fact} {places : List ℕ} {size : ℕ} → Printing facts places size → (k : ℕ) → k < length places → Below (terms (fact_in facts (get_or places k 0)))
+printing-below {facts} {places} p k h = terms-below (fact_in facts (get_or places k 0)) (formed-at facts (get_or places k 0) (fact 0 0 0) p.formed (p.placed.inside k h))
 
 -- where the terms of two facts have at most five digits, so have the numbers of the line that joins them
 pub join-below : (c : Fact) (i : ℕ) (f : Fact) → i < 4096 → Below (terms c) → Below (terms f) → Below (line_numbers (join c i f))
@@ -115,6 +109,13 @@ join-below c i f h p q =
     by_cases (eqb c.predicate sc) (λ g. rw (a, b, d, e, g) (search rules)) (λ g. rw (a, b, d, e, g) (search rules))))))
 
 -- ---- bytes
+
+-- the facts at places are given by number too
+pub listed : (facts : List Fact) (places : List ℕ) → items_from (λ i. fact_in facts (get_or places i 0)) 0 (length places) ≡ facts_at facts places
+listed facts places =
+    let size : length (facts_at facts places) ≡ length places = length-map places (fact_in facts) in
+    rw (← size) (items-listed (λ i. fact_in facts (get_or places i 0)) (facts_at facts places) 0 (fact_in facts 0)
+    (λ j h. ap (λ (i : ℕ). fact_in facts (get_or places i 0)) (zero-add j) ∙ sym (get_or-map (fact_in facts) places j 0)))
 
 -- the facts that `at` gives, printed one after the other
 module _ (at : ℕ → Fact) where

@@ -1,32 +1,33 @@
 -- Where paths begin: but by range, and where the subject of t is no gap, in facts with that subject; and where no data fact has
 -- it as its object, a path by range is a path by dom.
 -- Assumes nothing.
-use mathlib.Core.Path.{◌≡◌, refl, sym, ap, ◌∙◌, subst}
+use mathlib.Core.Path.{◌≡◌, refl, sym, ap, ◌∙◌}
 use mathlib.Core.Logic.{⊎_elim}
-use mathlib.Core.Bool.{Bool, true, false, ◌&&◌, ◌||◌, true≢false}
-use mathlib.Core.Option.{Option, none, some}
+use mathlib.Core.Bool.{Bool, true, false, ◌||◌, true≢false}
 use mathlib.Core.List.{List}
-use Prim.Native.Nat.{ℕ, ◌+◌, ◌≤◌, ◌<◌}
+use Prim.Native.Nat.{ℕ, ◌+◌}
 use native.Mathlib.Omega.{arith}
+use lib.ListN.{get_or}
 use lib.Dec.{T, eqb}
-use mir.Facts.{and_yes, yes_and, eqb_yes, yes_eqb}
-use borrow.Author.Tests.{eqb-false, ne_eqb}
+use mir.Facts.{and_yes, eqb_yes}
+use borrow.Author.Tests.{eqb-false, eq-eqb, ne_eqb}
 use Rattle.facts.specs.declared.Fact.{Fact}
 use Rattle.facts.specs.Terms.{kind_of, sc, type}
 use Rattle.facts.specs.Facts.{fact}
 use Rattle.facts.specs.Gaps.{is_gap}
-use Rattle.facts.proofs.Terms.{by_cases, T_of}
-use Rattle.table.specs.Tables.{row_fact}
-use Rattle.rules.specs.Graph.{◌∈◌, Path, first, step, least}
+use Rattle.facts.proofs.Terms.{by_cases}
+use Rattle.rules.specs.Chosen.{fact_in}
+use Rattle.rules.specs.Graph.{◌∈◌, Path, first, step}
 use Rattle.rules.specs.Paths.{named, property, chain, only_table, goes_on, next, typed, fits, start_for}
-use Rattle.rules.proofs.Graph.{Answer, least-answer}
-use Rattle.rules.proofs.Chosen.{least-below}
+use Rattle.rules.proofs.Graph.{place}
 use Rattle.rules.proofs.Paths.{next-says, property-of}
 use Rattle.rules.proofs.Fillings.{fits-says}
-use Rattle.question.specs.Row.{facts_of, subject_at, Cut}
+use Rattle.question.specs.Row.{subject_at, Cut}
 use Rattle.question.specs.State.{Starting}
-use Rattle.question.specs.Trace.{place_or, into}
-use Rattle.question.proofs.Laws.{place_of, most-or}
+use Rattle.std.specs.List.{list_any}
+use Rattle.std.proofs.lemmas.List.Folds.{list_any_at}
+use Rattle.question.specs.Trace.{into}
+use Rattle.question.proofs.Laws.{most-or}
 
 start-subject : (w : ℕ) (t a : Fact) → (w ≡ 4 → ⊥) → is_gap t.subject ≡ false → T (start_for w t a) → a.subject ≡ t.subject
 unfolding start_for typed
@@ -43,12 +44,12 @@ unfolding start_for
 start-predicate w t a d s = eqb_yes (and_yes (eqb a.predicate t.predicate) (fits t.subject a.subject) (rw d at s)).0
 
 -- so they stand in the part of that subject
-pub starting-run : (row : List ℕ) (n w : ℕ) (t : Fact) (lo hi : ℕ) {gap : Bool} → eqb w 4 || gap ≡ false → gap ≡ is_gap t.subject
-    → Cut row n t.subject lo → Cut row n (t.subject + 1) hi → Starting row n w t lo hi
-starting-run row n w t lo hi {gap} h e low high =
+pub starting-run : (facts : List Fact) (w : ℕ) (t : Fact) (lo hi : ℕ) {gap : Bool} → eqb w 4 || gap ≡ false → gap ≡ is_gap t.subject
+    → Cut facts t.subject lo → Cut facts (t.subject + 1) hi → Starting facts w t lo hi
+starting-run facts w t lo hi {gap} h e low high =
     let x = neither (eqb w 4) gap h in
-    let subject : (i : ℕ) → T (start_for w t (row_fact row i)) → subject_at row i ≡ t.subject =
-    λ i s. start-subject w t (row_fact row i) (eqb-false w 4 x.0) (sym e ∙ x.1) s in
+    let subject : (i : ℕ) → T (start_for w t (fact_in facts i)) → subject_at facts i ≡ t.subject =
+    λ i s. start-subject w t (fact_in facts i) (eqb-false w 4 x.0) (sym e ∙ x.1) s in
     record {
       begins = low.within;
       within = high.within;
@@ -81,25 +82,18 @@ next-classing v a b c h =
     ⊎_elim (λ (x : T (goes_on v a) × (b.predicate ≡ chain (property a))). classing b sc refl refl (x.1 ∙ ap chain c.class))
     (λ (x : (property a ≡ true) × (b.predicate ≡ v)). absurd (true≢false (sym x.0 ∙ c.class))) (next-says v a b h).1
 
-module _ (row : List ℕ) (n : ℕ) (t : Fact) (asks : t.predicate ≡ 5) (gap : is_gap t.subject ≡ false) (out : n ≤ place_or n (least (into row t.subject) 0 n)) where
-  -- no fact is into the subject
-  into-none : (i : ℕ) → i < n → T (into row t.subject i) → ⊥
-  into-none i h x = go (least (into row t.subject) 0 n) refl (least-answer (into row t.subject) 0 n)
-    where
-      go : (o : Option ℕ) → least (into row t.subject) 0 n ≡ o → Answer (into row t.subject) 0 n o → ⊥
-      go none e a = a i (omega arith) (omega arith) x
-      go (some k) e a = omega (arith, least-below (into row t.subject) 0 n k e, ap (place_or n) e)
-
+module _ (facts : List Fact) (t : Fact) (asks : t.predicate ≡ 5) (gap : is_gap t.subject ≡ false) (out : list_any (into t.subject) facts ≡ false) where
   -- so a path by range begins with no data fact
-  start_plain : {a : Fact} → a ∈ facts_of row n → T (start_for 4 t a) → named a.predicate ≡ false
+  start_plain : {a : Fact} → a ∈ facts → T (start_for 4 t a) → named a.predicate ≡ false
   unfolding start_for typed kind_of
   start_plain {a} m s =
       by_cases (named a.predicate)
-      (λ d. let p = place_of row n m in
-      absurd (into-none p.0 p.1 (subst (λ (f : Fact). T (named f.predicate && eqb f.object t.subject)) (sym p.2)
-      (yes_and (named a.predicate) (eqb a.object t.subject) (T_of _ d) (yes_eqb (fits-says t.subject a.object (rw (d, asks) at s) gap)))))) (λ d. d)
+      (λ d.
+      let p = place (fact 0 0 0) m in
+      let here : into t.subject (get_or facts p.0 (fact 0 0 0)) ≡ true = rw (p.2, d) (eq-eqb a.object t.subject (fits-says t.subject a.object (rw (d, asks) at s) gap)) in
+      absurd (true≢false (sym (list_any_at (into t.subject) facts p.0 (fact 0 0 0) p.1 here) ∙ out))) (λ d. d)
 
-  path-each : {a : Fact} {k : ℕ} → Path (start_for 4 t) (next 4) (facts_of row n) a k → Path (start_for 3 t) (next 3) (facts_of row n) a k × Classing a
+  path-each : {a : Fact} {k : ℕ} → Path (start_for 4 t) (next 4) facts a k → Path (start_for 3 t) (next 3) facts a k × Classing a
   unfolding start_for property kind_of only_table
   path-each (first {a} m s) =
       let d = start_plain m s in
@@ -108,5 +102,5 @@ module _ (row : List ℕ) (n : ℕ) (t : Fact) (asks : t.predicate ≡ 5) (gap :
       let q = path-each p in
       (step q.0 m (next-each 4 3 a b q.1 x), next-classing 4 a b q.1 x)
 
-  pub range-dom : {a : Fact} {k : ℕ} → Path (start_for 4 t) (next 4) (facts_of row n) a k → Path (start_for 3 t) (next 3) (facts_of row n) a k
+  pub range-dom : {a : Fact} {k : ℕ} → Path (start_for 4 t) (next 4) facts a k → Path (start_for 3 t) (next 3) facts a k
   range-dom p = (path-each p).0

@@ -1,16 +1,13 @@
 -- The question (document 01, "The question" and the order of refusals; document 02, Point 1: a gap): its answer for every input, and
 -- the output afterwards. The limit is document 01's allowance, the output its paper.
 -- Assumes nothing.
-use Rattle.std.specs.Prelude.{◌≡◌, ◌⊎◌, cond, List, [], map, ℕ, suc, ◌+◌, ◌-◌, ◌*◌, ◌≤◌, ◌<◌, length, T, leb}
+use Rattle.std.specs.Prelude.{Err, ◌≡◌, ◌⊎◌, cond, List, [], map, ℕ, suc, ◌+◌, ◌-◌, ◌*◌, ◌≤◌, ◌<◌, length, T, leb}
 use Rattle.std.proofs.Math.Option.{Option, none, some}
 use Rattle.columns.specs.Lines.{over}
 use Rattle.facts.specs.declared.Fact.{Fact}
 use Rattle.facts.specs.declared.Refusal.{Refusal}
 use Rattle.facts.specs.declared.Refusal.TheVariants.{Allowance, Short}
-use Rattle.facts.specs.declared.Verdict.{Verdict}
-use Rattle.facts.specs.declared.Verdict.TheVariants.{Sound, Faulty}
-use Rattle.facts.specs.declared.Answer.{Answer}
-use Rattle.facts.specs.declared.Answer.TheVariants.{Done, Yes, No, Long, Accepted, Refused}
+use Rattle.facts.specs.Results.{Verdict, Sound, Faulty, Answer, Done, Yes, No, Long, Accepted, Refused}
 use Rattle.facts.specs.declared.Code.{Code}
 use Rattle.facts.specs.Facts.{well_formed, or_else}
 use Rattle.facts.specs.Gaps.{Askable, question_fault, filling_of, filled_by}
@@ -24,7 +21,7 @@ use Rattle.rules.specs.Order.{InOrder}
 use Rattle.rules.specs.Paths.{fewest}
 use Rattle.rules.specs.Printed.{printed, print_order, conclusion}
 use Rattle.rules.specs.Chosen.{chosen, fact_in}
-use Rattle.question.specs.Row.{facts_of, Sorted}
+use Rattle.question.specs.Row.{Sorted}
 use Rattle.derivation.specs.Bytes.{derivation_bytes}
 
 -- ---- the answer
@@ -100,17 +97,17 @@ written No bytes old = old
 written (Long f) bytes old = old
 written (Done n) bytes old = old
 written (Accepted n) bytes old = old
-written (Refused r place) bytes old = old
+written (Err stop) bytes old = old
 
 -- the output after a question
 unfoldable pub output_after : List ℕ → Fact → ℕ → List ℕ → List ℕ
 unfolding written question_answer printed_from
 output_after table t limit old = written (question_answer table t limit (length old)) (printed_from (table_of table) t) old
 
--- what the answer from a row's facts needs: that they ascend and are well-formed, a limit of at most 1,024, and the output that it asks for
-pub record Settling (row : List ℕ) (n limit size : ℕ) : Type 0 where
-  pub sorted : Sorted row n
-  pub formed : T (all_formed (facts_of row n))
+-- what the answer from facts needs: that they ascend and are well-formed, a limit of at most 1,024, and the output that it asks for
+pub record Settling (facts : List Fact) (limit size : ℕ) : Type 0 where
+  pub sorted : Sorted facts
+  pub formed : T (all_formed facts)
   pub limited : limit ≤ 1024
   pub room : needed limit ≤ size
 

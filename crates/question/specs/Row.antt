@@ -1,45 +1,33 @@
--- A row of numbers, three a fact, as the facts of a table that are searched.
+-- The facts of a table that are searched, and the parts of them that have one subject.
 -- Assumes nothing.
-use Rattle.std.specs.Prelude.{◌≡◌, Bool, true, false, ◌||◌, List, ℕ, suc, ◌+◌, ◌*◌, ◌≤◌, ◌<◌, length, T, leb}
-use Rattle.columns.specs.Lines.{items_from}
+use Rattle.std.specs.Prelude.{Bool, true, ◌||◌, Option, None, Some, List, ℕ, suc, ◌≤◌, ◌<◌, length, T, leb}
 use Rattle.facts.specs.declared.Fact.{Fact}
 use Rattle.facts.specs.Facts.{before}
-use Rattle.table.specs.Tables.{row_fact}
+use Rattle.rules.specs.Chosen.{fact_in}
 use Rattle.rules.specs.Paths.{link}
 
--- the first n facts of a row
-abbrev pub facts_of : List ℕ → ℕ → List Fact
-facts_of row n = items_from (row_fact row) 0 n
-
 -- the subject of the fact at a place
-abbrev pub subject_at : List ℕ → ℕ → ℕ
-subject_at row i = (row_fact row i).subject
+abbrev pub subject_at : List Fact → ℕ → ℕ
+subject_at facts i = (fact_in facts i).subject
 
--- the row has n facts, at most 1,024, strictly ascending
-pub record Sorted (row : List ℕ) (n : ℕ) : Type 0 where
-  pub few : n ≤ 1024
-  pub whole : 3 * n ≤ length row
-  pub ascends : (i : ℕ) → suc i < n → T (before (row_fact row i) (row_fact row (suc i)))
+-- at most 1,024 facts, strictly ascending
+pub record Sorted (facts : List Fact) : Type 0 where
+  pub few : length facts ≤ 1024
+  pub ascends : (i : ℕ) → suc i < length facts → T (before (fact_in facts i) (fact_in facts (suc i)))
 
--- the row has n facts, at most 1,024, and their subjects never fall
-pub record Rising (row : List ℕ) (n : ℕ) : Type 0 where
-  pub few : n ≤ 1024
-  pub whole : 3 * n ≤ length row
-  pub rises : (i j : ℕ) → i ≤ j → j < n → subject_at row i ≤ subject_at row j
+-- at most 1,024 facts, whose subjects never fall
+pub record Rising (facts : List Fact) : Type 0 where
+  pub few : length facts ≤ 1024
+  pub rises : (i j : ℕ) → i ≤ j → j < length facts → subject_at facts i ≤ subject_at facts j
 
 -- the facts below r have a subject below x, and the others have not
-pub record Cut (row : List ℕ) (n x r : ℕ) : Type 0 where
-  pub within : r ≤ n
-  pub below : (k : ℕ) → k < r → subject_at row k < x
-  pub above : (k : ℕ) → r ≤ k → k < n → x ≤ subject_at row k
-
--- the end of the part of x that begins at lo; lo itself where the part is noted as passed, or where nothing goes on
-pub record Ends (row : List ℕ) (n x lo noted : ℕ) (on : Bool) (r : ℕ) : Type 0 where
-  pub fresh : noted ≡ 0 → on ≡ true → Cut row n (x + 1) r
-  pub again : (noted ≡ 0 → ⊥) → r ≡ lo
-  pub shut : on ≡ false → r ≡ lo
+pub record Cut (facts : List Fact) (x r : ℕ) : Type 0 where
+  pub within : r ≤ length facts
+  pub below : (k : ℕ) → k < r → subject_at facts k < x
+  pub above : (k : ℕ) → r ≤ k → k < length facts → x ≤ subject_at facts k
 
 -- no fact stands at the place, or its subject is not below the term to which a leads
-unfoldable pub may_come_before : List ℕ → ℕ → Fact → ℕ → Bool
+unfoldable pub may_come_before : List Fact → Fact → Option ℕ → Bool
 unfolding link
-may_come_before row n a at = leb n at || leb (link a) (subject_at row at)
+may_come_before facts a None = true
+may_come_before facts a (Some at) = leb (length facts) at || leb (link a) (subject_at facts at)

@@ -1,13 +1,13 @@
 -- The state of the search, and what each round leaves.
 -- Assumes nothing.
-use Rattle.std.specs.Prelude.{◌≡◌, Bool, true, false, List, [], ◌∷◌, ℕ, zero, suc, ◌+◌, ◌≤◌, ◌<◌, length, get_or, replicate, T}
+use Rattle.std.specs.Prelude.{◌≡◌, Bool, true, false, Option, Some, None, List, [], ◌∷◌, ℕ, zero, suc, ◌+◌, ◌≤◌, ◌<◌, length, get_or, set, replicate, T}
 use Rattle.facts.specs.declared.Fact.{Fact}
 use Rattle.rules.specs.Graph.{Path}
 use Rattle.rules.specs.Paths.{link, property, goes_on, start_for, next, goal_for}
 use Rattle.question.specs.declared.State.{State}
-use Rattle.question.specs.declared.Reached.{Reached}
-use Rattle.table.specs.Tables.{row_fact}
-use Rattle.question.specs.Row.{facts_of, Rising, Cut}
+use Rattle.question.specs.declared.Part.{Part}
+use Rattle.rules.specs.Chosen.{fact_in}
+use Rattle.question.specs.Row.{Rising, Cut}
 
 -- the mark of the place i, and the place at q of the queue
 abbrev pub mark_at : State → ℕ → ℕ
@@ -32,90 +32,104 @@ pub record Ordered (n : ℕ) (s : State) : Type 0 where
   pub listed : (i : ℕ) → 0 < mark_at s i → (q : ℕ) × (q < s.to) × (place_at s q ≡ i)
   pub rising : (p q : ℕ) → p ≤ q → q < s.to → mark_at s (place_at s p) ≤ mark_at s (place_at s q)
 
-module _ (row : List ℕ) (n w : ℕ) (t : Fact) where
-  -- a path by w over the row's facts that ends in the place i and has m facts
+module _ (facts : List Fact) (w : ℕ) (t : Fact) where
+  -- a path by w over the facts that ends in the place i and has m facts
   abbrev pub Way : ℕ → ℕ → Type 0
-  Way i m = Path (start_for w t) (next w) (facts_of row n) (row_fact row i) m
+  Way i m = Path (start_for w t) (next w) facts (fact_in facts i) m
 
-  -- a marked place is one of the n, and ends a path of as many facts as the mark says
+  -- a marked place is one of the facts, and ends a path of as many facts as the mark says
   abbrev pub MarksPaths : List ℕ → Type 0
-  MarksPaths mark = (i : ℕ) → 0 < get_or mark i 0 → (i < n) × Way i (get_or mark i 0)
+  MarksPaths mark = (i : ℕ) → 0 < get_or mark i 0 → (i < length facts) × Way i (get_or mark i 0)
 
   -- in the round k the queue has places of lower marks, then from `from` those marked k, and from `end` those marked k + 1;
   -- no marked place is a goal, and a place in which a path of m facts ends, m at most k, is marked, with at most m
   pub record Round (k from end : ℕ) (s : State) : Type 0 where
-    pub ordered : Ordered n s
+    pub ordered : Ordered (length facts) s
     pub sound : MarksPaths s.mark
     pub before : (q : ℕ) → q < from → mark_at s (place_at s q) < k
     pub front : (q : ℕ) → from ≤ q → q < end → mark_at s (place_at s q) ≡ k
     pub behind : (q : ℕ) → end ≤ q → q < s.to → mark_at s (place_at s q) ≡ suc k
-    pub plain : (i : ℕ) → 0 < mark_at s i → T (goal_for t (row_fact row i)) → ⊥
-    pub reached : (i : ℕ) → i < n → (m : ℕ) → Way i m → m ≤ k → (0 < mark_at s i) × (mark_at s i ≤ m)
+    pub plain : (i : ℕ) → 0 < mark_at s i → T (goal_for t (fact_in facts i)) → ⊥
+    pub reached : (i : ℕ) → i < length facts → (m : ℕ) → Way i m → m ≤ k → (0 < mark_at s i) × (mark_at s i ≤ m)
 
   -- no goal may follow a place marked m that is queued before `from`
   abbrev pub Early : List ℕ → List ℕ → ℕ → ℕ → Type 0
   Early mark queue m from =
-      (q : ℕ) → q < from → get_or mark (get_or queue q 0) 0 ≡ m → (b : ℕ) → b < n → T (next w (row_fact row (get_or queue q 0)) (row_fact row b)) → T (goal_for t (row_fact row b)) → ⊥
+      (q : ℕ) → q < from → get_or mark (get_or queue q 0) 0 ≡ m → (b : ℕ) → b < length facts → T (next w (fact_in facts (get_or queue q 0)) (fact_in facts b)) → T (goal_for t (fact_in facts b)) → ⊥
 
   -- the marks below f are the numbers of facts of the shortest paths, a path of f facts leads to a goal, and none of fewer
   pub record Met (f : ℕ) (s : State) : Type 0 where
-    pub ordered : Ordered n s
+    pub ordered : Ordered (length facts) s
     pub sound : MarksPaths s.mark
-    pub whole : (i : ℕ) → i < n → (m : ℕ) → Way i m → m < f → (0 < mark_at s i) × (mark_at s i ≤ m)
+    pub whole : (i : ℕ) → i < length facts → (m : ℕ) → Way i m → m < f → (0 < mark_at s i) × (mark_at s i ≤ m)
     pub end : Fact
-    pub path : Path (start_for w t) (next w) (facts_of row n) end f
+    pub path : Path (start_for w t) (next w) facts end f
     pub ends : T (goal_for t end)
-    pub lowest : (a : Fact) (m : ℕ) → Path (start_for w t) (next w) (facts_of row n) a m → T (goal_for t a) → f ≤ m
+    pub lowest : (a : Fact) (m : ℕ) → Path (start_for w t) (next w) facts a m → T (goal_for t a) → f ≤ m
     pub early : (m : ℕ) → f ≡ suc m → Early s.mark s.queue m s.from
 
   -- no path leads to a goal
   abbrev pub Nowhere : Type 0
-  Nowhere = (a : Fact) (m : ℕ) → Path (start_for w t) (next w) (facts_of row n) a m → T (goal_for t a) → ⊥
+  Nowhere = (a : Fact) (m : ℕ) → Path (start_for w t) (next w) facts a m → T (goal_for t a) → ⊥
 
-  -- what a search that met a goal after f facts, or none and f is 0, leaves
-  abbrev pub Left : ℕ → State → Type 0
-  Left zero s = Nowhere
-  Left (suc f) s = Met (suc f) s
+  -- what a search leaves that met a goal after f facts, or none
+  abbrev pub Left : Option ℕ → State → Type 0
+  Left None s = Nowhere
+  Left (Some f) s = Met f s
 
 -- every start of a path by w for t stands from `from` on, below `to`
-pub record Starting (row : List ℕ) (n w : ℕ) (t : Fact) (from to : ℕ) : Type 0 where
-  pub begins : from ≤ n
-  pub within : to ≤ n
-  pub all : (i : ℕ) → i < n → T (start_for w t (row_fact row i)) → (from ≤ i) × (i < to)
+pub record Starting (facts : List Fact) (w : ℕ) (t : Fact) (from to : ℕ) : Type 0 where
+  pub begins : from ≤ length facts
+  pub within : to ≤ length facts
+  pub all : (i : ℕ) → i < length facts → T (start_for w t (fact_in facts i)) → (from ≤ i) × (i < to)
 
 -- after the first round: a start is a goal, or the starts are marked and queued
-abbrev pub Seed : List ℕ → ℕ → ℕ → Fact → ℕ → State → Type 0
-Seed row n w t zero s = Round row n w t 1 0 s.to s × (s.from ≡ 0)
-Seed row n w t (suc f) s = (f ≡ 0) × Met row n w t 1 s
-
-abbrev pub Seeded : List ℕ → ℕ → ℕ → Fact → Reached → Type 0
-Seeded row n w t r = Seed row n w t r.facts r.state
+abbrev pub Seeded : List Fact → ℕ → Fact → Bool → State → Type 0
+Seeded facts w t true s = Met facts w t 1 s
+Seeded facts w t false s = Round facts w t 1 0 s.to s × (s.from ≡ 0)
 
 -- the state with nothing marked
 abbrev pub empty : State
 empty = record { mark = replicate 1024 0; queue = replicate 1024 0; from = 0; to = 0 }
 
--- where it is noted that the part of the row from lo on has been passed, from a property or from a class
+-- the state with the place j marked m and queued
+abbrev pub pushed : State → ℕ → ℕ → State
+pushed s j m = record { mark = set s.mark j m; queue = set s.queue s.to j; from = s.from; to = s.to + 1 }
+
+-- where it is noted that the part of the facts from lo on has been passed, from a property or from a class
 abbrev pub slot_of : Bool → ℕ → ℕ
 slot_of true lo = lo + 1025
 slot_of false lo = lo
 
--- where nothing is noted
-abbrev pub spare : ℕ
-spare = 2050
+-- a part of the facts, some, that may follow a on a path by w, and where it is noted
+pub record MayFollow (facts : List Fact) (w : ℕ) (a : Fact) (p : Part) : Type 0 where
+  pub on : goes_on w a ≡ true
+  pub low : Cut facts (link a) p.from
+  pub high : Cut facts (link a + 1) p.to
+  pub some : p.from < p.to
+  pub slot : p.slot ≡ slot_of (property a) p.from
 
--- the part of the row, from `from` up to `to`, that may follow a on a path by w, and where it is noted; or an empty one at `from`
-pub data PartOf (row : List ℕ) (n w : ℕ) (a : Fact) (done : List ℕ) : ℕ → ℕ → ℕ → Type 0 where
-  part : {from to : ℕ} → goes_on w a ≡ true → Cut row n (link a) from → Cut row n (link a + 1) to → from < to → PartOf row n w a done from to (slot_of (property a) from)
+-- no part is left that may follow a
+pub data NoneLeft (facts : List Fact) (w : ℕ) (a : Fact) (done : List Bool) : Type 0 where
   -- no fact has the subject to which a leads
-  none : {from : ℕ} → Cut row n (link a) from → Cut row n (link a + 1) from → PartOf row n w a done from from spare
+  absent : {from : ℕ} → Cut facts (link a) from → Cut facts (link a + 1) from → NoneLeft facts w a done
   -- no chain goes on from a
-  shut : {from : ℕ} → goes_on w a ≡ false → from ≤ n → PartOf row n w a done from from spare
+  shut : goes_on w a ≡ false → NoneLeft facts w a done
   -- the part has been passed
-  passed : {from : ℕ} → goes_on w a ≡ true → Cut row n (link a) from → (get_or done (slot_of (property a) from) 0 ≡ 0 → ⊥) → PartOf row n w a done from from spare
+  passed : {from : ℕ} → Cut facts (link a) from → get_or done (slot_of (property a) from) false ≡ true → NoneLeft facts w a done
+
+-- the part that may follow a on a path by w, if there is one that has not been passed
+abbrev pub PartOf : List Fact → ℕ → Fact → List Bool → Option Part → Type 0
+PartOf facts w a done None = NoneLeft facts w a done
+PartOf facts w a done (Some p) = MayFollow facts w a p
+
+-- what a search begins with: rising facts, and nothing marked
+pub record Fresh (facts : List Fact) (s : State) : Type 0 where
+  pub rising : Rising facts
+  pub blank : s ≡ empty
 
 -- what the rounds begin with: the starts are marked and queued, and none of them is a goal
-pub record Begun (row : List ℕ) (n w : ℕ) (t : Fact) (s : State) : Type 0 where
-  pub rising : Rising row n
-  pub round : Round row n w t 1 0 s.to s
+pub record Begun (facts : List Fact) (w : ℕ) (t : Fact) (s : State) : Type 0 where
+  pub rising : Rising facts
+  pub round : Round facts w t 1 0 s.to s
   pub from : s.from ≡ 0

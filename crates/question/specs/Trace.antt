@@ -1,48 +1,48 @@
 -- Reading the chosen path back from the marks and the queue.
 -- Assumes nothing.
-use Rattle.std.specs.Prelude.{◌≡◌, ◌⊎◌, Bool, ◌&&◌, cond, List, ℕ, ◌-◌, ◌≤◌, ◌<◌, get_or, T, eqb, ltb}
+use Rattle.std.specs.Prelude.{◌≡◌, ◌⊎◌, Bool, ◌&&◌, cond, Option as Maybe, None, Some, is_some, IfSome, IsSomeAnd, List, ℕ, ◌-◌, ◌≤◌, ◌<◌, length, get_or, T, eqb}
 use Rattle.std.proofs.Math.Option.{Option, none, some}
 use Rattle.facts.specs.declared.Fact.{Fact}
 use Rattle.rules.specs.Graph.{least}
 use Rattle.rules.specs.Paths.{named, start_for, next, goal_for}
 use Rattle.question.specs.declared.State.{State}
-use Rattle.table.specs.Tables.{row_fact}
+use Rattle.rules.specs.Chosen.{fact_in}
 use Rattle.question.specs.Row.{Rising}
 use Rattle.question.specs.State.{Met}
 
--- a number, or else n
-abbrev pub place_or : ℕ → Option ℕ → ℕ
-place_or n none = n
-place_or n (some i) = i
+-- a place, if there is one, as code gives it
+abbrev pub optional : Option ℕ → Maybe ℕ
+optional none = None
+optional (some i) = Some i
 
--- the fact at j is a start and a goal
-abbrev pub single : List ℕ → ℕ → Fact → ℕ → Bool
-single row w t j = goal_for t (row_fact row j) && start_for w t (row_fact row j)
+-- a place is found, and it is at most j
+abbrev pub AtMost : Maybe ℕ → ℕ → Type 0
+AtMost at j = IsSomeAnd at (λ i. i ≤ j)
 
--- the fact at j is a data fact with the object x
-abbrev pub into : List ℕ → ℕ → ℕ → Bool
-into row x j = named (row_fact row j).predicate && eqb (row_fact row j).object x
+-- a fact is a path for t by itself: a start and a goal
+abbrev pub single : ℕ → Fact → Fact → Bool
+single w t a = goal_for t a && start_for w t a
 
--- what is looked for at j: where `leads`, a data fact with the subject of t as its object, and else a path for t by itself
-abbrev pub sought : List ℕ → Bool → ℕ → Fact → ℕ → Bool
-sought row leads w t j = cond leads (into row t.subject j) (single row w t j)
+-- a data fact with the object x
+abbrev pub into : ℕ → Fact → Bool
+into x a = named a.predicate && eqb a.object x
 
-module _ (row : List ℕ) (n w : ℕ) (mark : List ℕ) where
+module _ (facts : List Fact) (w : ℕ) (mark : List ℕ) where
   -- the place i is marked m, and b may follow it
   abbrev pub precedes : ℕ → Fact → ℕ → Bool
-  precedes m b i = eqb (get_or mark i 0) m && next w (row_fact row i) b
+  precedes m b i = eqb (get_or mark i 0) m && next w (fact_in facts i) b
 
-  -- the first such place, or n
-  abbrev pub before_of : ℕ → Fact → ℕ
-  before_of m b = place_or n (least (precedes m b) 0 n)
+  -- the first such place, if there is one
+  abbrev pub before_of : ℕ → Fact → Maybe ℕ
+  before_of m b = optional (least (precedes m b) 0 (length facts))
 
   -- by the marks, b ends a path of m + 1 facts
   abbrev pub comes_by : Fact → ℕ → Fact → Bool
-  comes_by t m b = cond (eqb m 0) (start_for w t b) (ltb (before_of m b) n)
+  comes_by t m b = cond (eqb m 0) (start_for w t b) (is_some (before_of m b))
 
   -- the place j is such a goal
   abbrev pub ending : Fact → ℕ → ℕ → Bool
-  ending t m j = goal_for t (row_fact row j) && comes_by t m (row_fact row j)
+  ending t m j = goal_for t (fact_in facts j) && comes_by t m (fact_in facts j)
 
 -- the places marked at most m are queued below `top`; below it the marks never fall
 pub record Queued (n : ℕ) (mark queue : List ℕ) (m top : ℕ) : Type 0 where
@@ -52,24 +52,24 @@ pub record Queued (n : ℕ) (mark queue : List ℕ) (m top : ℕ) : Type 0 where
   pub listed : (i : ℕ) → 0 < get_or mark i 0 → get_or mark i 0 ≤ m → (q : ℕ) × (q < top) × (get_or queue q 0 ≡ i)
 
 -- what a step back from the places marked m + 1 needs, and what it finds
-pub record Stepping (row : List ℕ) (n : ℕ) (mark queue : List ℕ) (m top : ℕ) : Type 0 where
-  pub rising : Rising row n
-  pub queued : Queued n mark queue m top
+pub record Stepping (facts : List Fact) (mark queue : List ℕ) (m top : ℕ) : Type 0 where
+  pub rising : Rising facts
+  pub queued : Queued (length facts) mark queue m top
   pub some : 0 < m
 
-pub record Stepped (row : List ℕ) (n w : ℕ) (mark queue : List ℕ) (m : ℕ) (b : Fact) (at top : ℕ) : Type 0 where
-  pub found : at ≡ before_of row n w mark m b
-  pub queued : Queued n mark queue (m - 1) top
+pub record Stepped (facts : List Fact) (w : ℕ) (mark queue : List ℕ) (m : ℕ) (b : Fact) (at : Maybe ℕ) (top : ℕ) : Type 0 where
+  pub found : at ≡ before_of facts w mark m b
+  pub queued : Queued (length facts) mark queue (m - 1) top
 
--- the first goal of a part of the row that may follow a, if it is below `best`
-pub record FirstEnd (row : List ℕ) (w : ℕ) (t a : Fact) (from to best r : ℕ) : Type 0 where
-  pub most : r ≤ best
-  pub is : (r ≡ best) ⊎ ((r < to) × T (next w a (row_fact row r)) × T (goal_for t (row_fact row r)))
-  pub low : (j : ℕ) → from ≤ j → j < to → T (next w a (row_fact row j)) → T (goal_for t (row_fact row j)) → r ≤ j
+-- the first goal of a part of the facts that may follow a, if it is below `best`, the first so far, and else `best`
+pub record FirstEnd (facts : List Fact) (w : ℕ) (t a : Fact) (from to : ℕ) (best r : Maybe ℕ) : Type 0 where
+  pub most : (j : ℕ) → AtMost best j → AtMost r j
+  pub is : (r ≡ best) ⊎ IfSome r (λ i. (i < to) × T (next w a (fact_in facts i)) × T (goal_for t (fact_in facts i)))
+  pub low : (j : ℕ) → from ≤ j → j < to → T (next w a (fact_in facts j)) → T (goal_for t (fact_in facts j)) → AtMost r j
 
 -- what reading back needs: a search that met a goal after f facts, and room for f places
-pub record Traceable (row : List ℕ) (n w : ℕ) (t : Fact) (f : ℕ) (s : State) (size : ℕ) : Type 0 where
-  pub rising : Rising row n
+pub record Traceable (facts : List Fact) (w : ℕ) (t : Fact) (f : ℕ) (s : State) (size : ℕ) : Type 0 where
+  pub rising : Rising facts
   pub some : 0 < f
-  pub met : Met row n w t f s
+  pub met : Met facts w t f s
   pub room : f ≤ size

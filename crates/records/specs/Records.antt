@@ -3,13 +3,12 @@
 use Rattle.std.specs.Prelude.{◌≡◌, cond, List, ◌++◌, ℕ, length, drop, leb}
 use Rattle.facts.specs.declared.Fact.{Fact}
 use Rattle.facts.specs.declared.Refusal.TheVariants.{Short}
-use Rattle.facts.specs.declared.Answer.{Answer}
-use Rattle.facts.specs.declared.Answer.TheVariants.{Done, Refused}
-use Rattle.table.specs.Tables.{Table, accepted, refused, table_of}
+use Rattle.facts.specs.Results.{Answer, Done, Refused}
+use Rattle.table.specs.Tables.{over_facts, Table, accepted, refused, table_of}
 
 -- records written over the front of a list of them
 abbrev pub over_records : List Fact → List Fact → List Fact
-over_records new old = new ++ drop (length new) old
+over_records = over_facts
 
 -- the answer to a table that is put into m lent records: its refusal, or 8, or done
 unfoldable pub settled_records : Table → ℕ → Answer

@@ -1,7 +1,7 @@
 -- The table of rows is the six rules, and the tests of a step and of a line say what they should.
 -- Assumes nothing.
 use mathlib.Core.Path.{◌≡◌, refl}
-use mathlib.Core.Logic.{◌↔◌, ◌⊎◌, inl, inr}
+use mathlib.Core.Logic.{◌↔◌}
 use mathlib.Core.Bool.{Bool, true, false, ◌&&◌}
 use mathlib.Core.Option.{Option, none, some}
 use mathlib.Core.List.Memᴰ
@@ -10,7 +10,7 @@ use Prim.Native.Nat.{ℕ, zero, suc, ◌≤◌, ◌<◌}
 use native.Mathlib.Omega.{arith}
 use lib.ListN.{length}
 use lib.Dec.{T, leb, ltb, eqb, eqb_refl, leb→le}
-use borrow.Author.Tests.{lt-ltb, le-leb, lt-leb}
+use borrow.Author.Tests.{ltb-true, leb-true, lt-ltb, le-leb}
 use mir.Facts.{and_yes, yes_and, eqb_yes, not_T}
 use Rattle.facts.specs.declared.Fact.{Fact}
 use Rattle.facts.specs.Facts.{fact, well_formed}
@@ -124,12 +124,14 @@ justified-says table before l t =
 -- ---- what the code tests
 
 -- a number that no row has
-pub step-beyond : (n : ℕ) (p q r : Fact) → (n ≡ 0) ⊎ (length rows < n) → step_test n p q r ≡ false
+pub step-beyond : (n : ℕ) (p q r : Fact) → ((0 < n) × (n ≤ length rows) → ⊥) → false ≡ step_test n p q r
 unfolding step_test
-step-beyond n p q r (inl e) = rw e
-step-beyond n p q r (inr h) = by_cases (ltb 0 n) (λ e. rw (e, lt-leb n 6 h)) (λ e. rw e)
+step-beyond n p q r h =
+    by_cases (ltb 0 n)
+    (λ e. by_cases (leb n 6) (λ g. absurd (h (ltb-true 0 n e, leb-true n 6 g))) (λ g. rw (e, g)))
+    (λ e. rw e)
 
 -- a number that a row has
-pub step_row : (n : ℕ) (p q r : Fact) → (n ≡ 0 → ⊥) → n ≤ length rows → step_test n p q r ≡ fits_row (row n) p q r && well_formed p && well_formed q && well_formed r
+pub step_row : (n : ℕ) (p q r : Fact) → (0 < n) × (n ≤ length rows) → fits_row (row n) p q r && well_formed p && well_formed q && well_formed r ≡ step_test n p q r
 unfolding step_test
-step_row n p q r z h = rw (lt-ltb 0 n (omega (arith, z)), le-leb n 6 h)
+step_row n p q r h = rw (lt-ltb 0 n h.0, le-leb n 6 h.1)

@@ -5,6 +5,9 @@ use Rattle.std.proofs.Math.Option.{Option, none, some}
 use Rattle.facts.specs.declared.Fact.{Fact}
 use Rattle.facts.specs.Terms.{sc, sp, dom, range, type}
 use Rattle.facts.specs.Facts.{fact, well_formed}
+use Rattle.rules.specs.declared.Cell.{Cell}
+use Rattle.rules.specs.declared.Cell.TheVariants.{Sc, Sp, Dom, Range, «Type», Subject1, Object1, Subject2, Object2}
+use Rattle.rules.specs.declared.Cells.{Cells}
 use Rattle.rules.specs.declared.Row.{Row}
 use Rattle.rules.specs.Graph.{any}
 use Rattle.rules.specs.Derivations.{Line, fact_on}
@@ -13,43 +16,41 @@ use Rattle.rules.specs.Derivations.{Line, fact_on}
 unfoldable pub same : Fact → Fact → Bool
 same a b = eqb a.subject b.subject && eqb a.predicate b.predicate && eqb a.object b.object
 
--- cells of a row that stand for terms of the premises; the vocabulary stands for itself
-abbrev pub subject-1 : ℕ
-subject-1 = 6
-
-abbrev pub object-1 : ℕ
-object-1 = 7
-
-abbrev pub subject-2 : ℕ
-subject-2 = 8
-
-abbrev pub object-2 : ℕ
-object-2 = 9
+-- a fact of a rule, by its cells
+abbrev pub cells : Cell → Cell → Cell → Cells
+cells s p o = record { 0 = s; 1 = p; 2 = o }
 
 -- a rule as a row: the predicate of the first premise, the second premise, what it gives
-abbrev rule_row : ℕ → Fact → Fact → Row
+abbrev rule_row : ℕ → Cells → Cells → Row
 rule_row p q r = record { first = p; second = q; result = r }
 
 -- the six rules in order
 unfoldable pub rows : List Row
 rows =
-    rule_row sp (fact object-1 sp object-2) (fact subject-1 sp object-2)
-    ∷ rule_row sp (fact subject-2 subject-1 object-2) (fact subject-2 object-1 object-2)
-    ∷ rule_row sc (fact object-1 sc object-2) (fact subject-1 sc object-2)
-    ∷ rule_row sc (fact subject-2 type subject-1) (fact subject-2 type object-1)
-    ∷ rule_row dom (fact subject-2 subject-1 object-2) (fact subject-2 type object-1)
-    ∷ rule_row range (fact subject-2 subject-1 object-2) (fact object-2 type object-1)
+    rule_row sp (cells Object1 Sp Object2) (cells Subject1 Sp Object2)
+    ∷ rule_row sp (cells Subject2 Subject1 Object2) (cells Subject2 Object1 Object2)
+    ∷ rule_row sc (cells Object1 Sc Object2) (cells Subject1 Sc Object2)
+    ∷ rule_row sc (cells Subject2 «Type» Subject1) (cells Subject2 «Type» Object1)
+    ∷ rule_row dom (cells Subject2 Subject1 Object2) (cells Subject2 «Type» Object1)
+    ∷ rule_row range (cells Subject2 Subject1 Object2) (cells Object2 «Type» Object1)
     ∷ []
 
--- what a cell stands for, with p and q for the premises
-unfoldable pub cell_of : ℕ → Fact → Fact → ℕ
-cell_of c p q =
-    cond (eqb c subject-1) p.subject (cond (eqb c object-1) p.object (cond (eqb c subject-2) q.subject (cond (eqb c object-2) q.object c)))
+-- what a cell stands for, with p and q for the premises; a word of the vocabulary stands for itself
+unfoldable pub cell_of : Cell → Fact → Fact → ℕ
+cell_of Sc p q = sc
+cell_of Sp p q = sp
+cell_of Dom p q = dom
+cell_of Range p q = range
+cell_of «Type» p q = type
+cell_of Subject1 p q = p.subject
+cell_of Object1 p q = p.object
+cell_of Subject2 p q = q.subject
+cell_of Object2 p q = q.object
 
--- a fact whose terms are the cells of a row
-unfoldable pub fill : Fact → Fact → Fact → Fact
+-- the fact whose terms are the cells of a rule's fact
+unfoldable pub fill : Cells → Fact → Fact → Fact
 unfolding cell_of
-fill cells p q = fact (cell_of cells.subject p q) (cell_of cells.predicate p q) (cell_of cells.object p q)
+fill w p q = fact (cell_of w.0 p q) (cell_of w.1 p q) (cell_of w.2 p q)
 
 -- p, q and r are as the row has them
 unfoldable pub fits_row : Row → Fact → Fact → Fact → Bool
@@ -59,7 +60,7 @@ fits_row w p q r = eqb p.predicate w.first && same q (fill w.second p q) && same
 -- the row of rule n
 unfoldable pub row : ℕ → Row
 unfolding rows
-row n = get_or rows (n - 1) (rule_row 0 (fact 0 0 0) (fact 0 0 0))
+row n = get_or rows (n - 1) (rule_row 0 (cells Sc Sc Sc) (cells Sc Sc Sc))
 
 -- rule n gives r from p and q
 unfoldable pub gives : ℕ → Fact → Fact → Fact → Bool

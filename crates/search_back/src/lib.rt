@@ -1,178 +1,132 @@
 // Part of the search: the chosen shortest path, read back from the marks.
 #![tactic(auto)]
 
-ghost use Rattle.std.specs.Prelude.{◌≡◌, ◌+◌, ◌*◌, ◌≤◌, ◌<◌, length};
+ghost use Rattle.std.specs.Prelude.{◌≡◌, ◌-◌, ◌≤◌, ◌<◌, length};
+ghost use Rattle.std.specs.List.{list_any};
 ghost use Rattle.columns.specs.Lines.{over};
 ghost use Rattle.rules.specs.Graph.{least};
 ghost use Rattle.rules.specs.Chosen.{chosen_by};
-ghost use Rattle.question.specs.Row.{facts_of, Rising};
-ghost use Rattle.question.specs.Trace.{place_or, sought, ending, Queued, Stepping, Stepped, FirstEnd, Traceable};
+ghost use Rattle.question.specs.Row.{Rising};
+ghost use Rattle.question.specs.Trace.{optional, into, ending, Queued, Stepping, Stepped, FirstEnd, Traceable};
 ghost use Rattle.question.specs.State.{Early};
 
 use facts::Fact;
-use question::{Part, State, Step};
+use question::{Part, State};
 use search_links::{ends, follows, starts};
-use search_parts::{NOTES, may_come_before, part_of, wide};
-use table::PLACES;
-use table_lines::row_fact;
+use search_parts::{NOTES, may_come_before, part_of};
 use terms::is_name;
 
-// The first place that is marked m and that b may follow, or n: of the queue, the part behind the lower marks is passed.
+// The first place that is marked m and that b may follow, if there is one, and how much of the queue is left for the next
+// step back: of the queue, the part behind the lower marks is passed.
 fn before(
-    row: &[u32],
-    n: usize,
+    facts: &[Fact],
     w: u32,
     m: usize,
     b: Fact,
-    mark: &[u16; PLACES],
-    queue: &[u16; PLACES],
+    s: &State,
     top: usize,
-) -> Step
-    requires { Stepping row.now n mark.now queue.now m top }
-    ensures { Stepped row.now n w mark.now queue.now m b result.at result.top }
+) -> (Option<usize>, usize)
+    requires { Stepping facts.now s.now.mark s.now.queue m top }
+    ensures { Stepped facts.now w s.now.mark s.now.queue m b result.0 result.1 }
 {
-    let mut at = n;
-    let mut q = top;
-    while 0 < q {
-        let i = wide(queue[q - 1]);
-        let k = wide(mark[i]);
+    let mut at = None;
+    for q in (0..top).rev() {
+        let i = s.queue[q] as usize;
+        let k = s.mark[i] as usize;
         if k < m {
-            return Step { at: at, top: q };
+            return (at, q + 1);
         }
-        if k == m {
-            if i < at {
-                let a = row_fact(row, i);
-                if follows(w, a, b) {
-                    at = i;
-                }
-            }
+        if k == m && at.is_none_or(|j| i < j) && follows(w, facts[i], b) {
+            at = Some(i);
         }
-        q -= 1;
     }
-    Step { at: at, top: 0 }
+    (at, 0)
 }
 
-// Where `leads`, the fact at a place is a data fact with the subject of t as its object; else it is a path for t by itself.
-fn is_sought(row: &[u32], leads: bool, w: u32, t: Fact, j: usize) -> bool
-    requires { 3 * j + 3 ≤ length row.now }
-    ensures { result ≡ sought row.now leads w t j }
+// A data fact has the subject of t as its object.
+pub fn leads_into_subject(facts: &[Fact], t: Fact) -> bool
+    ensures { result ≡ list_any (into t.subject) facts.now }
 {
-    let b = row_fact(row, j);
-    if leads {
-        return is_name(b.predicate) & (b.object == t.subject);
-    }
-    ends(t, b) & starts(w, t, b)
+    facts
+        .iter()
+        .any(|a| is_name(a.predicate) & (a.object == t.subject))
 }
 
-// The first such place, or n.
-pub fn first_sought(row: &[u32], n: usize, leads: bool, w: u32, t: Fact) -> usize
-    requires { Rising row.now n }
-    ensures { result ≡ place_or n (least (sought row.now leads w t) 0 n) }
+// The first goal of a part of the facts that may follow a, if it is before `best`, and else `best`.
+fn first_end(
+    facts: &[Fact],
+    w: u32,
+    t: Fact,
+    a: Fact,
+    p: Part,
+    best: Option<usize>,
+) -> Option<usize>
+    requires { p.to ≤ length facts.now }
+    ensures { FirstEnd facts.now w t a p.from p.to best result }
 {
-    let mut j = 0;
-    while j < n {
-        if is_sought(row, leads, w, t, j) {
-            return j;
-        }
-        j += 1;
-    }
-    n
-}
-
-// The first goal of a part of the row that may follow a, if it is below `best`, and else `best`.
-fn first_end(row: &[u32], w: u32, t: Fact, a: Fact, p: Part, best: usize) -> usize
-    requires { 3 * p.to ≤ length row.now }
-    ensures { FirstEnd row.now w t a p.from p.to best result }
-{
-    let stop = p.to;
-    let mut j = p.from;
-    while j < stop {
-        if best <= j {
+    for j in p.from..p.to {
+        if best.is_some_and(|i| i <= j) {
             return best;
         }
-        let b = row_fact(row, j);
+        let b = facts[j];
         if ends(t, b) & follows(w, a, b) {
-            return j;
+            return Some(j);
         }
-        j += 1;
     }
     best
 }
 
-// The first goal, or n, that may follow a place marked m: over these places, from the first that leads to a goal, and from each
-// over its part of the row, once, where that may lead to an earlier goal than the first so far.
-fn last(
-    row: &[u32],
-    n: usize,
-    w: u32,
-    t: Fact,
-    m: usize,
-    mark: &[u16; PLACES],
-    queue: &[u16; PLACES],
-    from: usize,
-    top: usize,
-) -> usize
-    requires { Stepping row.now n mark.now queue.now m top × Early row.now n w t mark.now queue.now m from }
-    ensures { result ≡ place_or n (least (ending row.now n w mark.now t m) 0 n) }
+// The first goal, if there is one, that may follow a place marked m: over these places, from the first that leads to a goal, and
+// from each over its part of the facts, once, where that may lead to an earlier goal than the first so far.
+fn last(facts: &[Fact], w: u32, t: Fact, m: usize, s: &State) -> Option<usize>
+    requires { Stepping facts.now s.now.mark s.now.queue m s.now.to × Early facts.now w t s.now.mark s.now.queue m s.now.from }
+    ensures { result ≡ optional (least (ending facts.now w s.now.mark t m) 0 (length facts.now)) }
 {
-    let mut best = n;
-    let mut done = [0u8; NOTES];
-    let mut q = from;
-    while q < top {
-        let i = wide(queue[q]);
-        if wide(mark[i]) == m {
-            let a = row_fact(row, i);
-            if may_come_before(row, n, a, best) {
-                let p = part_of(row, n, w, a, &done);
-                best = first_end(row, w, t, a, p, best);
-                let d = p.slot;
-                done[d] = 1;
+    let mut best = None;
+    let mut done = [false; NOTES];
+    for q in s.from..s.to {
+        let i = s.queue[q] as usize;
+        let a = facts[i];
+        if (s.mark[i] as usize) == m && may_come_before(facts, a, best) {
+            if let Some(part) = part_of(facts, w, a, &done) {
+                best = first_end(facts, w, t, a, part, best);
+                done[part.slot] = true;
             }
         }
-        q += 1;
     }
     best
 }
 
-// The last place of the chosen path of m + 1 facts.
-fn path_end(
-    row: &[u32],
-    n: usize,
-    w: u32,
-    t: Fact,
-    m: usize,
-    mark: &[u16; PLACES],
-    queue: &[u16; PLACES],
-    from: usize,
-    top: usize,
-) -> usize
-    requires { Rising row.now n × Queued n mark.now queue.now m top × Early row.now n w t mark.now queue.now m from }
-    ensures { result ≡ place_or n (least (ending row.now n w mark.now t m) 0 n) }
+// The last place of the chosen path of m + 1 facts, if there is one. A path of one fact is a start and a goal.
+fn path_end(facts: &[Fact], w: u32, t: Fact, m: usize, s: &State) -> Option<usize>
+    requires { Rising facts.now × Queued (length facts.now) s.now.mark s.now.queue m s.now.to × Early facts.now w t s.now.mark s.now.queue m s.now.from }
+    ensures { result ≡ optional (least (ending facts.now w s.now.mark t m) 0 (length facts.now)) }
 {
     if m == 0 {
-        return first_sought(row, n, false, w, t);
+        return facts.iter().position(|a| ends(t, *a) & starts(w, t, *a));
     }
-    last(row, n, w, t, m, mark, queue, from, top)
+    last(facts, w, t, m, s)
 }
 
-// Writes the places of the chosen path by w of f facts, from its end back.
-pub fn trace(row: &[u32], n: usize, w: u32, t: Fact, f: usize, s: State, path: &mut [u16])
-    requires { Traceable row.now n w t f s (length path.old) }
-    ensures { path.new ≡ over (chosen_by (facts_of row.now n) t w f) path.old }
+// Writes the places of the chosen path by w of f facts, from its end back. A path of f facts leads to a goal, so that each step finds
+// a place: no `else` is reached.
+pub fn trace(facts: &[Fact], w: u32, t: Fact, f: usize, s: &State, path: &mut [u16])
+    requires { Traceable facts.now w t f s.now (length path.old) }
+    ensures { path.new ≡ over (chosen_by facts.now t w f) path.old }
 {
-    let mark = s.mark;
-    let queue = s.queue;
-    let from = s.from;
+    let Some(end) = path_end(facts, w, t, f - 1, s) else {
+        return;
+    };
+    path[f - 1] = end as u16;
+    let mut j = end;
     let mut top = s.to;
-    let mut i = f - 1;
-    let mut j = path_end(row, n, w, t, i, &mark, &queue, from, top);
-    path[i] = j as u16;
-    while 0 < i {
-        let b = row_fact(row, j);
-        let step = before(row, n, w, i, b, &mark, &queue, top);
-        j = step.at;
-        top = step.top;
-        i -= 1;
-        path[i] = j as u16;
+    for i in (0..f - 1).rev() {
+        let (at, left) = before(facts, w, i + 1, facts[j], s, top);
+        let Some(k) = at else {
+            return;
+        };
+        path[i] = k as u16;
+        j = k;
+        top = left;
     }
 }

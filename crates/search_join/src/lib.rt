@@ -18,33 +18,33 @@ use terms::is_name;
 fn line_of(rule: u32, first: u32, second: u32, subject: u32, predicate: u32, object: u32) -> Line
     ensures { result ≡ derivation_line rule first second (fact subject predicate object) }
 {
-    let f = Fact {
-        subject: subject,
-        predicate: predicate,
-        object: object,
-    };
     Line {
-        rule: rule,
-        first: first,
-        second: second,
-        fact: f,
+        rule,
+        first,
+        second,
+        fact: Fact {
+            subject,
+            predicate,
+            object,
+        },
     }
 }
 
 // A table line.
-pub fn table_line(f: Fact) -> Line
-    ensures { result ≡ derivation_line 0 0 0 f }
+pub fn table_line(fact: Fact) -> Line
+    ensures { result ≡ derivation_line 0 0 0 fact }
 {
     Line {
         rule: 0,
         first: 0,
         second: 0,
-        fact: f,
+        fact,
     }
 }
 
 // The rule line that joins f, on line i + 1, to the result so far, c on line i. The premises stand in the order in which the
 // rule writes them.
+#[tactic(auto, unfolding(rules::specs::Printed::join))]
 fn join_line(c: Fact, i: u32, f: Fact) -> Line
     requires { i < 4096 }
     ensures { result ≡ join c i f }
@@ -54,21 +54,18 @@ fn join_line(c: Fact, i: u32, f: Fact) -> Line
     let p = f.predicate;
     let o = f.object;
     if is_name(p) {
-        return line_of(2, i, i + 1, f.subject, y, o);
+        line_of(2, i, i + 1, f.subject, y, o)
+    } else if p == SP {
+        line_of(1, i, i + 1, x, SP, o)
+    } else if p == DOM {
+        line_of(5, i + 1, i, x, TYPE, o)
+    } else if p == RANGE {
+        line_of(6, i + 1, i, y, TYPE, o)
+    } else if c.predicate == SC {
+        line_of(3, i, i + 1, x, SC, o)
+    } else {
+        line_of(4, i + 1, i, x, TYPE, o)
     }
-    if p == SP {
-        return line_of(1, i, i + 1, x, SP, o);
-    }
-    if p == DOM {
-        return line_of(5, i + 1, i, x, TYPE, o);
-    }
-    if p == RANGE {
-        return line_of(6, i + 1, i, y, TYPE, o);
-    }
-    if c.predicate == SC {
-        return line_of(3, i, i + 1, x, SC, o);
-    }
-    line_of(4, i + 1, i, x, TYPE, o)
 }
 
 // Writes f on a table line, and behind it the rule line that joins f to the result so far, c on line i. Gives the new result.

@@ -1,112 +1,102 @@
 // Part of the search: breadth first over the table's facts, layer by layer, until a goal is reached.
 #![tactic(auto)]
 
-ghost use Rattle.std.specs.Prelude.{◌≡◌, ◌+◌, ◌<◌};
+ghost use Rattle.std.specs.Prelude.{◌≡◌, ◌<◌};
 ghost use Rattle.question.specs.Row.{Rising};
-ghost use Rattle.question.specs.State.{empty, Left, Seeded, Begun};
+ghost use Rattle.question.specs.State.{empty, pushed, Left, Fresh, Seeded, Begun};
 
 use facts::Fact;
-use question::{Reached, State};
+use question::State;
 use search_links::{ends, follows, starts};
 use search_parts::{NOTES, part_of, starting};
+use std::ops::Range;
 use table::PLACES;
-use table_lines::row_fact;
 
 // The state with nothing marked.
-fn blank() -> State
+pub fn blank() -> State
     ensures { result ≡ empty }
 {
     State {
-        mark: [0u16; PLACES],
-        queue: [0u16; PLACES],
+        mark: [0; PLACES],
+        queue: [0; PLACES],
         from: 0,
         to: 0,
     }
 }
 
-// The first layer: marks and queues the starts, up to one that is a goal.
-fn seed(row: &[u32], n: usize, w: u32, t: Fact) -> Reached
-    requires { Rising row.now n }
-    ensures { Seeded row.now n w t result }
+// Marks a place with its layer, and queues it.
+fn push(s: &mut State, place: usize, layer: usize)
+    requires { (place < 1024) × (layer < 65536) × (s.old.to < 1024) }
+    ensures { s.new ≡ pushed s.old place layer }
 {
-    let mut s = blank();
-    let span = starting(row, n, w, t);
-    let end = span.to;
-    let mut j = span.from;
-    while j < end {
-        let a = row_fact(row, j);
-        if starts(w, t, a) {
-            s.mark[j] = 1;
-            let to = s.to;
-            s.queue[to] = j as u16;
-            s.to = to + 1;
-            if ends(t, a) {
-                return Reached { facts: 1, state: s };
-            }
-        }
-        j += 1;
-    }
-    Reached { facts: 0, state: s }
+    s.mark[place] = layer as u16;
+    s.queue[s.to] = place as u16;
+    s.to += 1;
 }
 
-// The layers of a search by w for t: over the frontier, and from each place of it over the part of the row that may follow.
-// A part is passed once. All passes are left as soon as a goal is reached.
-fn rounds(row: &[u32], n: usize, w: u32, t: Fact, s0: State) -> Reached
-    requires { Begun row.now n w t s0 }
-    ensures { Left row.now n w t result.facts result.state }
+// The first layer: marks and queues the starts, up to one that is a goal. Says whether one is.
+fn seed(facts: &[Fact], w: u32, t: Fact, s: &mut State) -> bool
+    requires { Fresh facts.now s.old }
+    ensures { Seeded facts.now w t result s.new }
 {
-    let mut s = s0;
-    let mut layer: usize = 1;
-    let mut found: usize = 0;
-    let mut done = [0u8; NOTES];
-    'passes: while s.from < s.to {
-        let end = s.to;
-        let mut q = s.from;
-        while q < end {
-            let i = s.queue[q] as usize;
-            let a = row_fact(row, i);
-            let p = part_of(row, n, w, a, &done);
-            let stop = p.to;
-            let mut j = p.from;
-            while j < stop {
-                if s.mark[j] == 0 {
-                    let b = row_fact(row, j);
-                    if follows(w, a, b) {
-                        s.mark[j] = (layer + 1) as u16;
-                        let to = s.to;
-                        s.queue[to] = j as u16;
-                        s.to = to + 1;
-                        if ends(t, b) {
-                            s.from = q;
-                            found = layer + 1;
-                            break 'passes;
+    let Range { start, end } = starting(facts, w, t);
+    for j in start..end {
+        let a = facts[j];
+        if starts(w, t, a) {
+            push(s, j, 1);
+            if ends(t, a) {
+                return true;
+            }
+        }
+    }
+    false
+}
+
+// The layers of a search by w for t: over the frontier, and from each place of it over the part of the facts that may follow.
+// A part is passed once. All passes are left as soon as a goal is reached. The outer pass is no `for`: each layer makes the next frontier.
+fn rounds(facts: &[Fact], w: u32, t: Fact, s: &mut State) -> Option<usize>
+    requires { Begun facts.now w t s.old }
+    ensures { Left facts.now w t result s.new }
+{
+    let mut layer = 1;
+    let mut done = [false; NOTES];
+    'passes: {
+        while s.from < s.to {
+            let end = s.to;
+            for q in s.from..end {
+                let i = s.queue[q] as usize;
+                let a = facts[i];
+                if let Some(part) = part_of(facts, w, a, &done) {
+                    for j in part.from..part.to {
+                        let b = facts[j];
+                        if s.mark[j] == 0 && follows(w, a, b) {
+                            push(s, j, layer + 1);
+                            if ends(t, b) {
+                                s.from = q;
+                                break 'passes Some(layer + 1);
+                            }
                         }
                     }
+                    done[part.slot] = true;
                 }
-                j += 1;
             }
-            let d = p.slot;
-            done[d] = 1;
-            q += 1;
+            s.from = end;
+            layer += 1;
         }
-        s.from = end;
-        layer += 1;
-    }
-    Reached {
-        facts: found,
-        state: s,
+        None
     }
 }
 
-// The search by w for t.
-pub fn reach(row: &[u32], n: usize, w: u32, t: Fact) -> Reached
-    requires { Rising row.now n }
-    ensures { Left row.now n w t result.facts result.state }
+// The search by w for t: the number of facts on a shortest path, if there is a path, and in the state what leads back along it.
+// The state is lent, and may hold anything before.
+pub fn reach(facts: &[Fact], w: u32, t: Fact, s: &mut State) -> Option<usize>
+    requires { Rising facts.now }
+    ensures { Left facts.now w t result s.new }
 {
-    let first = seed(row, n, w, t);
-    if first.facts != 0 {
-        return first;
+    *s = blank();
+    if seed(facts, w, t, s) {
+        Some(1)
+    } else {
+        rounds(facts, w, t, s)
     }
-    let s = first.state;
-    rounds(row, n, w, t, s)
 }

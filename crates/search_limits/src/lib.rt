@@ -26,17 +26,12 @@ pub fn needed_for(limit: u32) -> usize
 pub fn verdict(t: Fact, limit: u32, size: usize) -> Verdict
     ensures { result ≡ asked t limit size }
 {
-    let v = gaps::question_fault(t);
-    match v {
-        Verdict::Faulty(r) => Verdict::Faulty(r),
-        Verdict::Sound => {
-            if LIMIT_MOST < limit {
-                return Verdict::Faulty(Refusal::Allowance);
-            }
-            if size < needed_for(limit) {
-                return Verdict::Faulty(Refusal::Short);
-            }
-            Verdict::Sound
-        }
+    gaps::question_fault(t)?;
+    if LIMIT_MOST < limit {
+        return Err(Refusal::Allowance);
     }
+    if size < needed_for(limit) {
+        return Err(Refusal::Short);
+    }
+    Ok(())
 }

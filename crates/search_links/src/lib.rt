@@ -8,23 +8,28 @@ use facts::{DOM, Fact, RANGE, SC, SP, TYPE};
 use terms::{is_gap, is_name};
 
 // The term to which a fact leads: the predicate of a data fact, and else the object.
+#[tactic(auto, unfolding(rules::specs::Paths::link))]
 pub fn link_of(f: Fact) -> u32
     ensures { result ≡ link f }
 {
-    let p = f.predicate;
-    let o = f.object;
-    if is_name(p) { p } else { o }
+    if is_name(f.predicate) {
+        f.predicate
+    } else {
+        f.object
+    }
 }
 
 // A data fact and an sp fact lead to a property.
+#[tactic(auto, unfolding(rules::specs::Paths::property))]
 pub fn is_property(f: Fact) -> bool
     ensures { result ≡ property f }
 {
-    let p = f.predicate;
-    is_name(p) | (p == SP)
+    is_name(f.predicate) | (f.predicate == SP)
 }
 
-// On a path by w, a chain may go on from a: from a dom or range fact only where that is the way.
+// On a path by w, a chain may go on from a: from a dom or range fact only where that is the way. A way is a predicate, SP, DOM
+// or RANGE, and no enum, which each comparison with a fact's predicate would turn back into that number.
+#[tactic(auto, unfolding(rules::specs::Paths::goes_on))]
 pub fn goes_on(w: u32, a: Fact) -> bool
     ensures { result ≡ goes_on w a }
 {
@@ -33,12 +38,12 @@ pub fn goes_on(w: u32, a: Fact) -> bool
 }
 
 // On a path by w, b may follow a.
+#[tactic(auto, unfolding(rules::specs::Paths::next, rules::specs::Paths::chain))]
 pub fn follows(w: u32, a: Fact, b: Fact) -> bool
     ensures { result ≡ next w a b }
 {
-    let s = b.subject;
     let p = b.predicate;
-    let here = s == link_of(a);
+    let here = b.subject == link_of(a);
     let on = goes_on(w, a);
     if is_property(a) {
         here & ((on & (p == SP)) | (p == w))
@@ -48,6 +53,7 @@ pub fn follows(w: u32, a: Fact, b: Fact) -> bool
 }
 
 // The term x of a question stands for the term n: it is n, or a gap.
+#[tactic(auto, unfolding(rules::specs::Paths::fits))]
 pub fn fits(x: u32, n: u32) -> bool
     ensures { result ≡ fits x n }
 {
@@ -55,6 +61,7 @@ pub fn fits(x: u32, n: u32) -> bool
 }
 
 // A path by w for the question t may begin with a.
+#[tactic(auto, unfolding(rules::specs::Paths::start_for, rules::specs::Paths::typed))]
 pub fn starts(w: u32, t: Fact, a: Fact) -> bool
     ensures { result ≡ start_for w t a }
 {
@@ -76,6 +83,7 @@ pub fn starts(w: u32, t: Fact, a: Fact) -> bool
 }
 
 // A path for the question t may end with a.
+#[tactic(auto, unfolding(rules::specs::Paths::goal_for))]
 pub fn ends(t: Fact, a: Fact) -> bool
     ensures { result ≡ goal_for t a }
 {

@@ -1,53 +1,33 @@
 // Part of the search: the facts of a path put in the order in which they are printed.
 #![tactic(auto)]
 
-ghost use Rattle.std.specs.Prelude.{◌<◌, length};
-ghost use Rattle.question.specs.Order.{Placed, Run, Rotated, InPrint};
+ghost use Rattle.std.specs.Prelude.{◌≡◌, drop};
+ghost use Rattle.std.specs.List.{prefix_len};
+ghost use Rattle.question.specs.Order.{Placed, InPrint, chained};
 
-use facts::SP;
-use table_lines::row_fact;
+use facts::{Fact, SP};
 use terms::is_name;
 
-// How many sp facts stand behind the first of f places.
-fn sp_run(row: &[u32], n: usize, f: usize, path: &[u16]) -> usize
-    requires { Placed row.now n f path.now }
-    ensures { Run row.now f path.now result }
+// How many sp facts stand behind the first place. Not `take_while(..).count()`: that a place is within the facts was not proved in its closure.
+fn sp_run(facts: &[Fact], path: &[u16]) -> usize
+    requires { Placed facts.now path.now }
+    ensures { result ≡ prefix_len (chained facts.now) (drop 1 path.now) }
 {
-    let mut k = 0;
-    while k + 1 < f {
-        let b = row_fact(row, path[k + 1] as usize);
-        if b.predicate == SP {
-            k += 1;
-        } else {
+    for (k, place) in path[1..].iter().enumerate() {
+        if facts[*place as usize].predicate != SP {
             return k;
         }
     }
-    k
+    path.len() - 1
 }
 
-// Puts the first place behind the next k.
-fn rotate(k: usize, path: &mut [u16])
-    requires { k < length path.old }
-    ensures { Rotated k path.old path.new }
+// Puts the places of a path in the order in which their facts are printed: a data fact that begins them behind the sp facts.
+pub fn print_order(facts: &[Fact], path: &mut [u16])
+    requires { Placed facts.now path.old }
+    ensures { InPrint facts.now path.old path.new }
 {
-    let first = path[0];
-    let mut i = 0;
-    while i < k {
-        path[i] = path[i + 1];
-        i += 1;
-    }
-    path[k] = first;
-}
-
-// Puts the first f places in the order in which their facts are printed: a data fact that begins them behind the sp facts.
-pub fn print_order(row: &[u32], n: usize, f: usize, path: &mut [u16])
-    requires { Placed row.now n f path.old }
-    ensures { InPrint row.now f path.old path.new }
-{
-    let a = row_fact(row, path[0] as usize);
-    let p = a.predicate;
-    if is_name(p) {
-        let k = sp_run(row, n, f, path);
-        rotate(k, path);
+    if is_name(facts[path[0] as usize].predicate) {
+        let k = sp_run(facts, path);
+        path[..=k].rotate_left(1);
     }
 }

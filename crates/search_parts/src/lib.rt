@@ -1,78 +1,54 @@
-// Part of the search: the part of the row that may follow a fact, found by halves and passed once.
+// Part of the search: the part of the facts that may follow a fact, found by halves and passed once.
 #![tactic(auto)]
 
-ghost use Rattle.std.specs.Prelude.{◌≡◌, ◌+◌, ◌*◌, ◌≤◌, ◌<◌};
+ghost use Rattle.std.specs.Prelude.{◌≡◌, ◌+◌, ◌≤◌, ◌<◌, length};
 ghost use Rattle.rules.specs.Paths.{property};
-ghost use Rattle.question.specs.Row.{Rising, Cut, Ends, may_come_before};
+ghost use Rattle.question.specs.Row.{Rising, Cut, may_come_before};
 ghost use Rattle.question.specs.State.{Starting, slot_of, PartOf};
 
 use facts::{Fact, RANGE};
-use question::{Part, Span};
+use question::Part;
 use search_links::{goes_on, is_property, link_of};
-use table::{FIELDS, PLACES};
+use std::ops::Range;
+use table::PLACES;
 use terms::is_gap;
 
-// A part of the row begins at a place or behind the last. For each beginning it is noted twice whether the part has been
-// passed: from facts that lead to a class, and behind those from facts that lead to a property; then a spare note.
+// A part of the facts begins at a place or behind the last. For each beginning it is noted twice whether the part has been
+// passed: from facts that lead to a class, and behind those from facts that lead to a property.
 const BEGINNINGS: usize = PLACES + 1;
 
-const SPARE: usize = 2 * BEGINNINGS;
+pub const NOTES: usize = 2 * BEGINNINGS;
 
-pub const NOTES: usize = SPARE + 1;
-
-// The first of the n facts whose subject is at least x, or n, by halves.
-fn lower_bound(row: &[u32], n: usize, x: u32) -> usize
-    requires { Rising row.now n }
-    ensures { Cut row.now n x result }
+// The first of the facts whose subject is at least x, or their number, by halves.
+fn lower_bound(facts: &[Fact], x: u32) -> usize
+    requires { Rising facts.now }
+    ensures { Cut facts.now x result }
 {
-    let mut lo = 0;
-    let mut left = n;
-    while 1 < left {
-        let half = left / 2;
-        let mid = lo + half;
-        if row[FIELDS * (mid - 1)] < x {
-            lo = mid;
-        }
-        left -= half;
-    }
-    if lo < n {
-        if row[FIELDS * lo] < x {
-            lo += 1;
-        }
-    }
-    lo
+    facts.partition_point(|f| f.subject < x)
 }
 
 // The end of the facts with the subject x, which begin at lo.
-fn run_end(row: &[u32], n: usize, x: u32, lo: usize) -> usize
-    requires { Rising row.now n × Cut row.now n x lo }
-    ensures { Cut row.now n (x + 1) result }
+fn run_end(facts: &[Fact], x: u32, lo: usize) -> usize
+    requires { Rising facts.now × Cut facts.now x lo }
+    ensures { Cut facts.now (x + 1) result }
 {
-    let mut hi = lo;
-    while hi < n {
-        if x < row[FIELDS * hi] {
-            return hi;
-        }
-        hi += 1;
-    }
-    hi
+    lo + facts[lo..].iter().take_while(|f| f.subject <= x).count()
 }
 
 // Where the starts of a path by w for t stand: among the facts with the subject of t; by range, and where that is a gap, anywhere.
-pub fn starting(row: &[u32], n: usize, w: u32, t: Fact) -> Span
-    requires { Rising row.now n }
-    ensures { Starting row.now n w t result.from result.to }
+pub fn starting(facts: &[Fact], w: u32, t: Fact) -> Range<usize>
+    requires { Rising facts.now }
+    ensures { Starting facts.now w t result.start result.end }
 {
     let x = t.subject;
     if (w == RANGE) | is_gap(x) {
-        return Span { from: 0, to: n };
+        return 0..facts.len();
     }
-    let lo = lower_bound(row, n, x);
-    let hi = run_end(row, n, x, lo);
-    Span { from: lo, to: hi }
+    let lo = lower_bound(facts, x);
+    lo..run_end(facts, x, lo)
 }
 
-// Where it is noted that the part of the row from lo on has been passed from facts that lead where a does.
+// Where it is noted that the part of the facts from lo on has been passed from facts that lead where a does.
 fn slot(lo: usize, a: Fact) -> usize
     requires { lo ≤ 1024 }
     ensures { result ≡ slot_of (property a) lo }
@@ -80,58 +56,32 @@ fn slot(lo: usize, a: Fact) -> usize
     if is_property(a) { lo + BEGINNINGS } else { lo }
 }
 
-// The end of the part from lo on whose facts have the subject x, or lo where the part has been passed or nothing in it may
-// follow.
-fn part_end(row: &[u32], n: usize, x: u32, lo: usize, noted: u8, on: bool) -> usize
-    requires { Rising row.now n × Cut row.now n x lo }
-    ensures { Ends row.now n x lo noted on result }
-{
-    if noted != 0 {
-        return lo;
-    }
-    if on {
-        return run_end(row, n, x, lo);
-    }
-    lo
-}
-
-// The part of the row that may follow a on a path by w, if it has not been passed.
-pub fn part_of(row: &[u32], n: usize, w: u32, a: Fact, done: &[u8; NOTES]) -> Part
-    requires { Rising row.now n }
-    ensures { PartOf row.now n w a done.now result.from result.to result.slot }
+// The part of the facts that may follow a on a path by w, if there is one and it has not been passed.
+pub fn part_of(facts: &[Fact], w: u32, a: Fact, done: &[bool; NOTES]) -> Option<Part>
+    requires { Rising facts.now }
+    ensures { PartOf facts.now w a done.now result }
 {
     let x = link_of(a);
-    let lo = lower_bound(row, n, x);
-    let d = slot(lo, a);
-    let hi = part_end(row, n, x, lo, done[d], goes_on(w, a));
-    if lo < hi {
-        return Part {
-            from: lo,
-            to: hi,
-            slot: d,
-        };
+    let from = lower_bound(facts, x);
+    let slot = slot(from, a);
+    if done[slot] | !goes_on(w, a) {
+        return None;
     }
-    Part {
-        from: lo,
-        to: lo,
-        slot: SPARE,
+    let to = run_end(facts, x, from);
+    if from < to {
+        Some(Part { from, to, slot })
+    } else {
+        None
     }
 }
 
-// A 16-bit number, as one that may index.
-pub fn wide(x: u16) -> usize
-    ensures { result ≡ x }
+// Something that may follow a may stand before the place: no fact stands there, or its subject is not below the term to which a leads.
+#[tactic(auto, unfolding(question::specs::Row::may_come_before))]
+pub fn may_come_before(facts: &[Fact], a: Fact, at: Option<usize>) -> bool
+    ensures { result ≡ may_come_before facts.now a at }
 {
-    x as usize
-}
-
-// Something that may follow a may stand before the place: the subject there is not below the term to which a leads.
-pub fn may_come_before(row: &[u32], n: usize, a: Fact, at: usize) -> bool
-    requires { Rising row.now n }
-    ensures { result ≡ may_come_before row.now n a at }
-{
-    if n <= at {
-        return true;
+    match at {
+        None => true,
+        Some(i) => facts.len() <= i || link_of(a) <= facts[i].subject,
     }
-    link_of(a) <= row[FIELDS * at]
 }

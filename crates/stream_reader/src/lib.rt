@@ -15,6 +15,7 @@ pub fn read_full<R: Read>(stream: &mut R, memory: &mut [u8]) -> Result<usize>
     ensures end { IfOk result (λ n. n < length memory.new → IsAtEnd (R.remaining stream.new)) }
 {
     let mut done = 0;
+    // A read gives as many bytes as it likes, so no `for` and no iterator says how many turns there are.
     while done < memory.len() {
         let n = stream.read(&mut memory[done..])?;
         if n == 0 {

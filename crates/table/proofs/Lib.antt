@@ -2,4 +2,4 @@ pub mod Scans
 pub mod Rows
 pub mod Lists
 pub mod Tables
-pub mod Torn
+pub mod LineRead

@@ -17,12 +17,11 @@ use Rattle.columns.proofs.Lists.{items-listed}
 use Rattle.facts.specs.declared.Fact.{Fact}
 use Rattle.facts.specs.declared.Refusal.{Refusal}
 use Rattle.facts.specs.declared.Refusal.TheVariants.{Order}
-use Rattle.facts.specs.declared.Verdict.{Verdict}
-use Rattle.facts.specs.declared.Verdict.TheVariants.{Sound, Faulty}
+use Rattle.facts.specs.Results.{Verdict, Sound, Faulty}
 use Rattle.facts.specs.Facts.{well_formed, fault_of, order_of, verdict_of, before, or_else}
 use Rattle.facts.proofs.Terms.{T_of, of_T}
 use Rattle.facts.proofs.Facts.{fault-none}
-use Rattle.table.specs.declared.Scan.TheVariants.{Passes, Stops}
+use Rattle.table.specs.Results.{Passes, Stops}
 use Rattle.table.specs.Scans.{above, earns, tried, first_earned, onward, scan}
 use Rattle.table.specs.Judged.{judged}
 use Rattle.table.specs.Tables.{ascending, all_formed}

@@ -1,31 +1,30 @@
 -- Laws of facts as rows and bytes, and of what a scan of them means.
 -- Assumes nothing.
+use Rattle.std.specs.Prelude.{Err}
 use mathlib.Core.Path.{◌≡◌, refl, sym, ap, ◌∙◌}
 use mathlib.Core.Bool.{true, false, cond}
-use mathlib.Core.List.{List}
-use Prim.Native.Nat.{ℕ, zero, suc, ◌+◌, ◌*◌, ◌/◌, ◌%◌, ◌≤◌, ◌<◌}
+use mathlib.Core.List.{List, append_assoc}
+use Prim.Native.Nat.{ℕ, zero, suc, ◌+◌, ◌-◌, ◌*◌, ◌/◌, ◌%◌, ◌≤◌, ◌<◌}
 use lib.Dec.{eqb, leb}
 use borrow.Author.Tests.{eq-eqb, ne_eqb, le-leb, lt-leb, eqb-true, leb-true}
 use Rattle.facts.proofs.Terms.{by_cases}
 use native.Mathlib.Omega.{arith}
 use native.Mathlib.Nat.{zero-add}
 use native.Mathlib.Numerals.{add-one, towards_suc}
-use lib.ListN.{length, take, drop}
-use lib.Seq.{drop-cons}
+use lib.ListN.{length, take, drop, set, length-append, length-drop}
+use lib.Seq.{drop-cons, set_at, take_at}
 use Rattle.columns.specs.Lines.{over, flat, items_from}
 use Rattle.columns.proofs.Fields.{both}
 use Rattle.columns.proofs.Lines.{line-length}
-use Rattle.columns.proofs.Lists.{flat-length, items-length}
+use Rattle.columns.proofs.Lists.{flat-length, items-length, items_more}
+use Rattle.facts.proofs.Results.{same_parts}
 use Rattle.facts.specs.declared.Fact.{Fact}
 use Rattle.facts.specs.declared.Refusal.{Refusal}
 use Rattle.facts.specs.declared.Refusal.TheVariants.{Size, Short}
-use Rattle.facts.specs.declared.Answer.TheVariants.{Done, Refused}
-use Rattle.facts.specs.declared.Verdict.{Verdict}
-use Rattle.facts.specs.declared.Verdict.TheVariants.{Sound, Faulty}
-use Rattle.table.specs.declared.Scan.{Scan}
-use Rattle.table.specs.declared.Scan.TheVariants.{Passes, Stops}
+use Rattle.facts.specs.Results.{Done, Refused, Verdict, Sound, Faulty}
+use Rattle.table.specs.Results.{Scan, Passes, Stops}
 use Rattle.table.specs.Scans.{onward, scan}
-use Rattle.table.specs.Tables.{line_verdict, row_verdict, terms, row_of, line_of, table_bytes, line_fact, row_fact, Table, accepted, refused, sized, meant, table_scan, table_of, row_scan, table_of_row, settled, filled, scan_of, passed, loaded}
+use Rattle.table.specs.Tables.{over_facts, line_verdict, row_verdict, terms, row_of, line_of, table_bytes, line_fact, row_fact, Table, accepted, refused, sized, meant, table_scan, table_of, row_scan, table_of_row, settled, filled, scan_of, passed, loaded}
 
 -- ---- rows and bytes
 
@@ -34,6 +33,17 @@ row-length = flat-length terms 3 (λ f. refl)
 
 pub bytes-length : (fs : List Fact) → length (table_bytes fs) ≡ 16 * length fs
 bytes-length = flat-length line_of 16 (λ f. line-length (terms f))
+
+-- ---- facts over the front of a list of them
+
+pub over_facts-length : (new old : List Fact) → length new ≤ length old → length (over_facts new old) ≡ length old
+over_facts-length new old h = simp (length-append, length-drop) (omega arith)
+
+-- one fact more
+pub over_facts-more : (at : ℕ → Fact) (old : List Fact) (i : ℕ) → i < length old → set (over_facts (items_from at 0 i) old) i (at i) ≡ over_facts (items_from at 0 (suc i)) old
+over_facts-more at old i h =
+    rw (items-length at 0 (suc i), items-length at 0 i, drop-cons old i (at i) h, items_more at 0 i, zero-add, append_assoc)
+    (set_at (items_from at 0 i) _ (drop (suc i) old) (at i) i (items-length at 0 i))
 
 -- ---- sizes
 
@@ -58,7 +68,7 @@ sized-says k most size e = let b = both (eqb (size % k) 0) (leb size most) e in 
 pub scan-meant : (at : ℕ → Fact) (s : Scan) → scan_of (meant at s) ≡ s
 unfolding scan_of meant
 scan-meant at (Passes n) = ap Passes (items-length at 0 n)
-scan-meant at (Stops r place) = refl
+scan-meant at (Err stop) = refl
 
 pub scan-table : (b : List ℕ) → scan_of (table_of b) ≡ table_scan b
 unfolding table_of
@@ -69,13 +79,13 @@ unfolding table_of_row
 scan-row row = scan-meant (row_fact row) (row_scan row)
 
 -- the facts that are loaded, by where the scan ends
-pub loaded-none : (b : List ℕ) (r : Refusal) → table_scan b ≡ Stops r 0 → (row : List ℕ) → row ≡ over (row_of (loaded b)) row
-unfolding loaded passed items_from flat
-loaded-none b r e row = rw e
+pub loaded-none : (b : List ℕ) (r : Refusal) → table_scan b ≡ Stops r 0 → (facts : List Fact) → facts ≡ over_facts (loaded b) facts
+unfolding loaded passed items_from
+loaded-none b r e facts = rw e
 
 pub loaded-stop : (b : List ℕ) (r : Refusal) (i : ℕ) → table_scan b ≡ Stops r (i + 1) → loaded b ≡ items_from (line_fact b) 0 i
 unfolding loaded passed
-loaded-stop b r i e = rw (e, add-one)
+loaded-stop b r i e = let n : i + 1 - 1 ≡ i = omega arith in rw (e, n)
 
 pub loaded-all : (b : List ℕ) (n : ℕ) → table_scan b ≡ Passes n → loaded b ≡ items_from (line_fact b) 0 n
 unfolding loaded passed
@@ -88,14 +98,14 @@ loaded-accepted b facts e = go (table_scan b) refl
   where
     go : (s : Scan) → table_scan b ≡ s → loaded b ≡ facts
     go (Passes n) p = loaded-all b n p ∙ unfold meant in (let q : meant (line_fact b) (Passes n) ≡ accepted facts = rw p at e in cc)
-    go (Stops r place) p = unfold meant in (let q : meant (line_fact b) (Stops r place) ≡ accepted facts = rw p at e in let z : ◌≡◌ {A = ℕ} 0 1 = cc in absurd (omega arith))
+    go (Err stop) p = unfold meant in (let q : meant (line_fact b) (Stops stop.refusal stop.place) ≡ accepted facts = rw p at e in let z : ◌≡◌ {A = ℕ} 0 1 = cc in absurd (omega arith))
 
 -- ---- what an end of a scan says of the table
 
 pub scan-stops : (t : Table) (r : Refusal) (place : ℕ) → scan_of t ≡ Stops r place → t ≡ refused r place
 unfolding scan_of
 scan-stops (accepted facts) r place e = let z : ◌≡◌ {A = ℕ} 0 1 = cc in absurd (omega arith)
-scan-stops (refused r' place') r place e = cc
+scan-stops (refused r' place') r place e = let parts = same_parts e in let f = parts.0 in let g = parts.1 in cc
 
 pub scan-passes : (t : Table) (n : ℕ) → scan_of t ≡ Passes n → (facts : List Fact) × (t ≡ accepted facts) × (length facts ≡ n)
 unfolding scan_of
@@ -127,6 +137,22 @@ accepted-scan b facts e = sym (scan-table b) ∙ rw e (unfold scan_of in refl)
 
 pub accepted-size : (b : List ℕ) (facts : List Fact) → table_of b ≡ accepted facts → (length b ≡ 16 * length facts) × (length facts ≤ 1024)
 accepted-size b facts e = let p = passes-size 16 16384 (length b) (line_verdict b) (length facts) (unfold table_scan in accepted-scan b facts e) in omega arith
+
+-- of an accepted table as many facts are loaded as it has, and they stand in front
+pub passes-loaded : (b : List ℕ) (n : ℕ) (old memory : List Fact) → Passes n ≡ scan_of (table_of b) → memory ≡ over_facts (loaded b) old
+    → (facts : List Fact) × (table_of b ≡ accepted facts) × (length facts ≡ n) × (n ≤ 1024) × (take n memory ≡ facts)
+passes-loaded b n old memory e m =
+    let p = scan-passes (table_of b) n (sym e) in
+    (p.0, p.1, p.2, omega (arith, (accepted-size b p.0 p.1).1, p.2), rw (m, loaded-accepted b p.0 p.1) (take_at p.0 _ n p.2))
+
+-- as many facts are loaded as lines are passed, and they stand in front of a memory that kept its length
+pub passed-loaded : (b : List ℕ) (s : Scan) (n : ℕ) (old memory : List Fact) → s ≡ scan_of (table_of b) → n ≡ passed s → memory ≡ over_facts (loaded b) old → length memory ≡ length old
+    → (n ≤ length memory) × (take n memory ≡ loaded b)
+unfolding loaded
+passed-loaded b s n old memory e k m l =
+    let count : length (loaded b) ≡ n = items-length (line_fact b) 0 (passed (table_scan b)) ∙ ap passed (sym (scan-table b)) ∙ ap passed (sym e) ∙ sym k in
+    let put : length memory ≡ length (loaded b) + (length old - length (loaded b)) = ap length m ∙ simp (length-append, length-drop) in
+    (omega arith, rw m (take_at (loaded b) _ n count))
 
 pub row-scan : (row : List ℕ) (facts : List Fact) → table_of_row row ≡ accepted facts → row_scan row ≡ Passes (length facts)
 row-scan row facts e = sym (scan-row row) ∙ rw e (unfold scan_of in refl)

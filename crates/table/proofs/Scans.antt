@@ -10,12 +10,11 @@ use borrow.Author.Tests.{eqb-false}
 use Rattle.facts.specs.declared.Fact.{Fact}
 use Rattle.facts.specs.declared.Refusal.{Refusal}
 use Rattle.facts.specs.declared.Refusal.TheVariants.{Term, Blank, Part, Class, Order}
-use Rattle.facts.specs.declared.Verdict.{Verdict}
-use Rattle.facts.specs.declared.Verdict.TheVariants.{Sound, Faulty}
+use Rattle.facts.specs.Results.{Verdict, Sound, Faulty}
 use Rattle.facts.specs.Facts.{well_formed, has_no_term, has_blank, misplaced, text_as_class, fault_of, order_of, verdict_of, before, or_else}
 use Rattle.facts.proofs.Terms.{by_cases}
 use Rattle.facts.proofs.Facts.{verdict-formed}
-use Rattle.table.specs.declared.Scan.TheVariants.{Passes, Stops}
+use Rattle.table.specs.Results.{Passes, Stops}
 use Rattle.table.specs.Scans.{above, earns, tried, first_earned, onward, scan}
 use Rattle.table.specs.Judged.{judged}
 

@@ -1,5 +1,6 @@
 -- What tables are accepted, which refusal the others get, and that reading and writing undo one another.
 -- Assumes nothing.
+use Rattle.std.specs.Prelude.{Err}
 use mathlib.Core.Path.{◌≡◌, refl, sym, ap, ◌∙◌}
 use mathlib.Core.Logic.{◌↔◌, ◌⊎◌, inl, inr, ⊎_elim}
 use mathlib.Core.Bool.{Bool, true, false, cond}
@@ -13,16 +14,15 @@ use lib.Seq.{drop-drop}
 use lib.Dec.{T}
 use Rattle.columns.specs.Lines.{laid_out, numbers_at, Below, flat, items_from}
 use Rattle.columns.proofs.Lists.{flat-at, items-length, items_at, items-listed, lines-written, line-placed}
+use Rattle.facts.proofs.Results.{same_parts, same_refused}
 use Rattle.facts.specs.declared.Fact.{Fact}
 use Rattle.facts.specs.declared.Refusal.{Refusal}
 use Rattle.facts.specs.declared.Refusal.TheVariants.{Size}
-use Rattle.facts.specs.declared.Verdict.{Verdict}
-use Rattle.facts.specs.declared.Verdict.TheVariants.{Sound, Faulty}
+use Rattle.facts.specs.Results.{Verdict, Sound, Faulty}
 use Rattle.facts.specs.Facts.{fact, well_formed}
 use Rattle.facts.proofs.Terms.{by_cases}
 use Rattle.facts.proofs.Facts.{fact-eq, terms-within}
-use Rattle.table.specs.declared.Scan.{Scan}
-use Rattle.table.specs.declared.Scan.TheVariants.{Passes, Stops}
+use Rattle.table.specs.Results.{Scan, Passes, Stops}
 use Rattle.table.specs.Scans.{earns, tried, first_earned, First, onward, scan}
 use Rattle.table.specs.Tables as tables
 use Rattle.table.specs.Tables.{terms, row_of, table_bytes, line_fact, row_fact, accepted, refused, sized, meant, line_verdict, table_scan, table_of, row_verdict, row_scan, table_of_row, all_formed}
@@ -216,8 +216,9 @@ stops-says judge (suc n) i r place e = go (judge i) refl (stops-says judge n (su
     go : (v : Verdict) → judge i ≡ v → (scan judge (suc i) n ≡ Stops r place → StopsAt judge n (suc i) r place) → StopsAt judge (suc n) i r place
     go (Faulty q) p rest =
         let s : Stops q (suc i) ≡ Stops r place = rw p at e in
-        let g : q ≡ r = cc in
-        let h : suc i ≡ place = cc in
+        let parts = same_parts s in
+        let g : q ≡ r = parts.0 in
+        let h : suc i ≡ place = parts.1 in
         (0, rw add-zero (sym h), omega arith, (λ j l. absurd (omega arith)), rw (add-zero, ← g) p)
     go Sound p rest = further judge n i r place p (rest (rw p at e))
 
@@ -241,7 +242,10 @@ scan-stopped judge n r place = (
 meant-refused : (at : ℕ → Fact) (s : Scan) (r : Refusal) (place : ℕ) → meant at s ≡ refused r place ↔ (s ≡ Stops r place)
 unfolding meant
 meant-refused at (Passes n) r place = (λ e. let z : ◌≡◌ {A = ℕ} 0 1 = cc in absurd (omega arith), λ e. let z : ◌≡◌ {A = ℕ} 0 1 = cc in absurd (omega arith))
-meant-refused at (Stops q p) r place = (λ e. cc, λ e. cc)
+meant-refused at (Err stop) r place = (
+  λ e. let f : stop.refusal ≡ r = cc in let g : stop.place ≡ place = cc in same_refused f g,
+  λ e. let parts = same_parts e in let f = parts.0 in let g = parts.1 in cc,
+)
 
 -- refused for its size, or at the first line that earns a refusal
 abbrev pub Refusable : Bool → (ℕ → Verdict) → ℕ → Refusal → ℕ → Type 0
@@ -253,7 +257,7 @@ refused-by true judge n r place = (
   ⊎_elim (λ (h : (true ≡ false) × (r ≡ Size) × (place ≡ 0)). let z : ◌≡◌ {A = ℕ} 0 1 = cc h.0 in absurd (omega arith)) (λ (h : (true ≡ true) × Stopped judge n r place). (scan-stopped judge n r place).1 h.1),
 )
 refused-by false judge n r place = (
-  λ e. let p : Size ≡ r = cc in let q : 0 ≡ place = cc in inl (refl, sym p, sym q),
+  λ e. let parts = same_parts e in inl (refl, sym parts.0, sym parts.1),
   ⊎_elim (λ (h : (false ≡ false) × (r ≡ Size) × (place ≡ 0)). rw (h.1, h.2)) (λ (h : (false ≡ true) × Stopped judge n r place). let z : ◌≡◌ {A = ℕ} 0 1 = cc h.0 in absurd (omega arith)),
 )
 

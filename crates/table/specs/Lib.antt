@@ -1,3 +1,4 @@
+pub mod Results
 pub mod Scans
 pub mod Tables
 pub mod Judged

@@ -1,18 +1,15 @@
 -- The meaning of a table: its bytes, its row of numbers, and which of them are accepted (document 01, "Table layout" and the
 -- table of numbers).
 -- Assumes nothing.
-use Rattle.std.specs.Prelude.{◌≡◌, Bool, true, cond, ◌&&◌, List, [], ◌∷◌, ℕ, zero, suc, ◌+◌, ◌*◌, ◌/◌, ◌%◌, ◌≤◌, length, get_or, T, leb, eqb}
+use Rattle.std.specs.Prelude.{Err, ◌≡◌, Bool, true, cond, ◌&&◌, List, [], ◌∷◌, ◌++◌, ℕ, zero, suc, ◌+◌, ◌-◌, ◌*◌, ◌/◌, ◌%◌, ◌≤◌, length, drop, get_or, T, leb, eqb}
 use Rattle.columns.specs.Fields.{number_at}
 use Rattle.columns.specs.Lines.{line, laid_out, over, flat, items_from}
 use Rattle.facts.specs.declared.Fact.{Fact}
 use Rattle.facts.specs.declared.Refusal.{Refusal}
 use Rattle.facts.specs.declared.Refusal.TheVariants.{Size, Short}
-use Rattle.facts.specs.declared.Verdict.{Verdict}
-use Rattle.facts.specs.declared.Answer.{Answer}
-use Rattle.facts.specs.declared.Answer.TheVariants.{Done, Refused}
+use Rattle.facts.specs.Results.{Verdict, Answer, Done, Refused}
 use Rattle.facts.specs.Facts.{fact, well_formed, before}
-use Rattle.table.specs.declared.Scan.{Scan}
-use Rattle.table.specs.declared.Scan.TheVariants.{Passes, Stops}
+use Rattle.table.specs.Results.{Scan, Passes, Stops}
 use Rattle.table.specs.Scans.{earns, tried, first_earned, scan}
 
 -- ---- facts as numbers and as bytes
@@ -41,6 +38,10 @@ line_fact b i = fact (number_at b (16 * i)) (number_at b (16 * i + 5)) (number_a
 unfoldable pub row_fact : List ℕ → ℕ → Fact
 row_fact row i = fact (get_or row (3 * i) 0) (get_or row (3 * i + 1) 0) (get_or row (3 * i + 2) 0)
 
+-- facts written over the front of a list of them
+abbrev pub over_facts : List Fact → List Fact → List Fact
+over_facts new old = new ++ drop (length new) old
+
 -- ---- what is accepted
 
 pub data Table : Type 0 where
@@ -54,7 +55,7 @@ sized k most size = eqb (size % k) 0 && leb size most
 -- what a scan of facts says
 unfoldable pub meant : (ℕ → Fact) → Scan → Table
 meant at (Passes n) = accepted (items_from at 0 n)
-meant at (Stops r place) = refused r place
+meant at (Err stop) = refused stop.refusal stop.place
 
 -- the first of 2, 3, 4, 5, 12, 6 that line i of the bytes earns
 unfoldable pub line_verdict : List ℕ → ℕ → Verdict
@@ -123,8 +124,7 @@ scan_of (refused r place) = Stops r place
 -- the lines that a scan has passed
 unfoldable pub passed : Scan → ℕ
 passed (Passes n) = n
-passed (Stops r zero) = zero
-passed (Stops r (suc i)) = i
+passed (Err stop) = stop.place - 1
 
 -- the facts on the lines before the first that is refused: all of them, where the table is accepted
 unfoldable pub loaded : List ℕ → List Fact

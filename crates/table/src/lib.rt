@@ -1,7 +1,7 @@
 // Tables as bytes and as rows of numbers (document 01, "Table layout"): types, definitions and laws.
 #![tactic(auto)]
 
-use facts::{Fact, Refusal, Verdict};
+use facts::Refused;
 
 // The most facts of a table, document 01's 1,024 places.
 pub const PLACES: usize = 1024;
@@ -14,16 +14,5 @@ pub const LINE_BYTES: usize = 16;
 // The numbers of a full row, FIELDS for each place.
 pub const ROW_NUMBERS: usize = 3072;
 
-// How far a scan of lines or facts gets: past all of them, or to the first refusal and its place.
-#[derive(Clone, Copy)]
-pub enum Scan {
-    Passes(u32),
-    Stops(Refusal, u32),
-}
-
-// What a line comes to: the first of 2, 3, 4, 5, 12, 6 that it earns, and its fact.
-#[derive(Clone, Copy)]
-pub struct Judged {
-    pub verdict: Verdict,
-    pub fact: Fact,
-}
+// How far a scan of lines or facts gets: past all of them, and their number, or to the first refusal.
+pub type Scan = Result<u32, Refused>;

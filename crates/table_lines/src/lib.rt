@@ -4,59 +4,47 @@
 ghost use Rattle.std.specs.Prelude.{◌≡◌, ◌+◌, ◌-◌, ◌*◌, ◌≤◌, length};
 ghost use Rattle.std.proofs.lemmas.List.Edits.{sets};
 ghost use Rattle.table.specs.Tables.{terms, row_fact};
-ghost use Rattle.table.specs.Judged.{judged, lacks_field, NextLine, LineJudged};
+ghost use Rattle.table.specs.Judged.{judged, line_read, NextLine, LineJudged};
 
-use columns::{LINE_END, NO_FIELD};
+use columns::LINE_END;
 use facts::{Fact, Refusal, Verdict};
-use table::{FIELDS, Judged, LINE_BYTES};
+use table::{FIELDS, LINE_BYTES};
 
 // The first of 3, 4, 5, 12 and 6 that f earns, with last the fact before it, if it is not the first.
+#[tactic(auto, unfolding(table::specs::Judged::judged))]
 pub fn judge(first: bool, last: Fact, f: Fact) -> Verdict
     ensures { result ≡ judged first last f }
 {
     faults::verdict(first | faults::comes_before(last, f), f)
 }
 
-// A field of the three that were read is none.
-fn lacks_field(f: Fact) -> bool
-    ensures { result ≡ lacks_field f }
+// The fact on a line, if three fields and byte 10 stand there.
+fn line_fact(bytes: &[u8], i: usize) -> Option<Fact>
+    requires { 16 * i + 16 ≤ length bytes.now }
+    ensures { result ≡ line_read bytes.now i }
 {
-    (f.subject == NO_FIELD) | (f.predicate == NO_FIELD) | (f.object == NO_FIELD)
+    let at = LINE_BYTES * i;
+    let subject = field_reader::field_at(bytes, at)?;
+    let predicate = field_reader::field_at(bytes, at + 5)?;
+    let object = field_reader::field_at(bytes, at + 10)?;
+    if bytes[at + 15] != LINE_END {
+        return None;
+    }
+    Some(Fact {
+        subject,
+        predicate,
+        object,
+    })
 }
 
-// Reads and judges a line, with last the fact on the line before, if there is one. Most lines have a well-formed fact, none of whose
-// numbers stands for no field, and are left with their order to be tried.
-pub fn judge_line(bytes: &[u8], i: usize, last: Fact) -> Judged
+// Reads and judges a line, with last the fact on the line before, if there is one: its fact, or the first refusal that it earns.
+pub fn judge_line(bytes: &[u8], i: usize, last: Fact) -> Result<Fact, Refusal>
     requires { NextLine bytes.now i last }
     ensures { LineJudged bytes.now i result }
 {
-    let at = LINE_BYTES * i;
-    let subject = field_reader::field_at(bytes, at);
-    let predicate = field_reader::field_at(bytes, at + 5);
-    let object = field_reader::field_at(bytes, at + 10);
-    let f = Fact {
-        subject: subject,
-        predicate: predicate,
-        object: object,
-    };
-    if terms::is_well_formed(f) & (bytes[at + 15] == LINE_END) {
-        let v = faults::order((i == 0) | faults::comes_before(last, f));
-        return Judged {
-            verdict: v,
-            fact: f,
-        };
-    }
-    if lacks_field(f) | (bytes[at + 15] != LINE_END) {
-        return Judged {
-            verdict: Verdict::Faulty(Refusal::Column),
-            fact: f,
-        };
-    }
-    let v = faults::verdict((i == 0) | faults::comes_before(last, f), f);
-    Judged {
-        verdict: v,
-        fact: f,
-    }
+    let f = line_fact(bytes, i).ok_or(Refusal::Column)?;
+    judge(i == 0, last, f)?;
+    Ok(f)
 }
 
 // Puts a fact's three numbers at a place of a row.
@@ -71,6 +59,7 @@ pub fn put_fact(f: Fact, row: &mut [u32], i: usize)
 }
 
 // The fact at a place of a row.
+#[tactic(auto, unfolding(table::specs::Tables::row_fact))]
 pub fn row_fact(row: &[u32], i: usize) -> Fact
     requires { 3 * i + 3 ≤ length row.now }
     ensures { result ≡ row_fact row.now i }

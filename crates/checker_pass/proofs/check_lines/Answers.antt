@@ -1,45 +1,37 @@
--- `checker_pass::check_lines` meets its contract. The loop's invariant: the lines before the one reached are passed.
+-- `checker_pass::check_lines` meets its contract. The loop's invariant: the lines before the one reached are passed, and the facts on the last two
+-- are at hand.
 -- Assumes nothing.
-use mathlib.Core.Path.{◌≡◌, sym, ◌∙◌}
-use mathlib.Core.Bool.{true}
-use Prim.Native.Nat.{◌*◌}
+use mathlib.Core.Path.{◌≡◌, sym, ap, ◌∙◌}
+use mathlib.Core.Bool.{cond}
+use Prim.Native.Nat.{◌+◌}
 use native.Mathlib.Omega.{arith}
+use lib.Dec.{eqb}
 use Rattle.std.proofs.lemmas.Bool.Decides.{nat_tests}
-use borrow.Author.Tests.{not-true, not-false}
-use Rattle.columns.specs.Lines.{laid_out}
-use Rattle.acceptance.proofs.Pass.{pass-none, pass-end, form-refused, step-refused, pass-more}
+use Rattle.rules.specs.declared.Line.{Line}
+use Rattle.derivation.proofs.Bytes.{some-read, none-read}
+use Rattle.acceptance.proofs.Pass.{behind-none, behind-more, pass-none, pass-end, form-refused, step-refused, pass-more}
 use Rattle.checker_pass.proofs.check_lines.Goals as goal
-use Rattle.checker_pass.proofs.check_lines.Goals.{Else-is_torn}
-
--- what the test for 9 leaves
-laid : (c : Else-is_torn) → laid_out 6 c.args.derivation.now (31 * c.loop-i.i) ≡ true
-laid c = not-false _ (sym c.is_torn.ensures ∙ c.if-is_torn.false)
 
 pub loop-i-init : goal.loop-i-init
-loop-i-init c = pass-none _ _ _ _ _
+loop-i-init c = record { passed = pass-none _ _ _ _; behind = behind-none _ _ _ }
 
-pub is_torn-requires : goal.is_torn-requires
-is_torn-requires c = (omega arith, c.read_line-l.ensures)
+pub returns-in_default : goal.returns-in_default
+returns-in_default c = form-refused _ _ _ _ c.loop-i.invariant.passed (omega arith) (none-read _ _ (sym c.read_line.ensures ∙ c.in_default.is))
 
-pub returns-then-is_torn : goal.returns-then-is_torn
-returns-then-is_torn c = form-refused _ _ _ _ c.loop-i.invariant (omega arith) (not-true _ (sym c.is_torn.ensures ∙ c.if-is_torn.true))
-
-pub is_justified-requires : goal.is_justified-requires
-is_justified-requires c = (c.requires.0, c.loop-i.invariant.behind)
-
-pub returns-then-not-is_justified : goal.returns-then-not-is_justified
-returns-then-not-is_justified c =
-    let e = c in
+pub returns-then-not-justified : goal.returns-then-not-justified
+returns-then-not-justified c =
+    let read = some-read _ _ _ (sym c.read_line.ensures ∙ c.in-Some.is) in
     c.refuse_step.ensures
-    ∙ step-refused _ _ _ _ e.loop-i.invariant (omega arith) e.read_line-l.ensures (laid (goal.at-returns-then-not-is_justified c).Else-is_torn) (sym c.is_justified.ensures ∙ c.if-not-is_justified.true)
+    ∙ step-refused _ _ _ _ c.loop-i.invariant.passed (omega arith) read.0 (rw read.1 (sym c.is_justified-justified.ensures ∙ c.if-not-justified.true))
 
 pub loop-i-preserved : goal.loop-i-preserved
 loop-i-preserved c =
-    let j = c in
-    let e = j in
-    let l = e.loop-i in
-    pass-more _ _ _ _ l.invariant (omega arith) e.read_line-l.ensures (laid (goal.at-loop-i-preserved c).Else-is_torn) (cc) (omega arith) _
-    (grind (arith, nat_tests))
+    let read = some-read _ _ _ (sym c.read_line.ensures ∙ c.in-Some.is) in
+    let counted : c.loop-i.count + c.from-count.result ≡ c.loop-i.count + cond (eqb c.in-Some.l.rule 0) 1 0 = grind (arith, nat_tests) in
+    record {
+      passed = pass-more _ _ _ _ c.loop-i.invariant.passed (omega arith) read.0 (rw read.1 (sym c.is_justified-justified.ensures ∙ c.if-not-justified.false)) _ (rw read.1 counted);
+      behind = behind-more c.loop-i.invariant.behind (omega arith) _ (sym (ap (λ (l : Line). l.fact) read.1));
+    }
 
 pub returns : goal.returns
-returns c = c.check_end.ensures ∙ pass-end _ _ _ _ c.loop-i.invariant (omega arith) (omega arith)
+returns c = c.check_end.ensures ∙ pass-end _ _ _ _ c.loop-i.invariant.passed c.loop-i.invariant.behind (omega arith) (omega arith)

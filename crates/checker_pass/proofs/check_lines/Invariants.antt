@@ -1,12 +1,12 @@
--- `checker_pass::check_lines` meets its contract. The loop's invariant: the lines before the one reached are passed.
+-- `checker_pass::check_lines` meets its contract. The loop's invariant: the lines before the one reached are passed, and the facts on the last two
+-- are at hand.
 -- Assumes nothing.
-use Prim.Native.Nat.{◌-◌}
-use Rattle.acceptance.specs.Holds.{row_facts}
+use Rattle.acceptance.specs.Near.{Behind}
 use Rattle.acceptance.proofs.Pass.{Passed}
 use Rattle.checker_pass.proofs.check_lines.Given as goal
 
 abbrev pub invariant-loop-i : goal.invariant-loop-i
-invariant-loop-i l = Passed (row_facts l.row l.facts) l.fact l.derivation l.n l.i l.near l.count
-
-abbrev pub decreases-loop-i : goal.decreases-loop-i
-decreases-loop-i l = l.n - l.i
+invariant-loop-i l = record {
+  passed : Passed l.table.facts.now l.fact l.derivation l.n l.i l.count;
+  behind : Behind l.derivation l.i l.last l.second_last;
+}

@@ -1,13 +1,10 @@
 -- `checker_refusals::scan_layout` meets its contract. The loop's invariant: the scan goes on from the line reached.
 -- Assumes nothing.
 use mathlib.Core.Path.{◌≡◌}
-use Prim.Native.Nat.{◌-◌, ◌≤◌}
+use Prim.Native.Nat.{◌-◌}
 use Rattle.table.specs.Scans.{scan}
 use Rattle.acceptance.specs.Check.{form_verdict}
 use Rattle.checker_refusals.proofs.scan_layout.Given as goal
 
 abbrev pub invariant-loop-i : goal.invariant-loop-i
-invariant-loop-i l = (l.i ≤ l.n) × (scan (form_verdict l.derivation) l.from (l.n - l.from) ≡ scan (form_verdict l.derivation) l.i (l.n - l.i))
-
-abbrev pub decreases-loop-i : goal.decreases-loop-i
-decreases-loop-i l = l.n - l.i
+invariant-loop-i l = scan (form_verdict l.derivation) l.from (l.n - l.from) ≡ scan (form_verdict l.derivation) l.i (l.n - l.i)

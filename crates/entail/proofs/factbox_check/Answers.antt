@@ -9,4 +9,4 @@ pub pack-requires : goal.pack-requires
 pack-requires c = rw c.check.ensures.call (check-small _ _ _)
 
 pub returns : goal.returns
-returns c = let both = check-said (record { answer = c.pack.ensures ∙ rw (c.check.ensures.call, c.fact_of.ensures) }) in record { call = both.0; meaning = both.1 }
+returns c = let both = check-said (record { answer = c.pack.ensures ∙ rw c.check.ensures.call }) in record { call = both.0; meaning = both.1 }

@@ -10,5 +10,6 @@ pack-requires c = rw c.question.ensures.call.answer (question-small _ _ _ _)
 
 pub returns : goal.returns
 returns c =
-    let q = c.question.ensures in
-    let f = c.fact_of.ensures in let both = question-said (record { answer = c.pack.ensures ∙ rw (q.call.answer, f); output = q.call.output ∙ rw f }) in record { call = both.0; meaning = both.1 }
+    let q = c.question.ensures.call in
+    let both = question-said (record { answer = c.pack.ensures ∙ rw q.answer; output = q.output }) in
+    record { call = both.0; meaning = both.1 }

@@ -1,41 +1,37 @@
--- `reader::read` meets its contract: what `load` left is copied where there is room for it.
+-- `reader::read` meets its contract: what `load` left is put where there is room for it.
 -- Assumes nothing.
-use mathlib.Core.Path.{◌≡◌, sym, ap, ◌∙◌}
-use Prim.Native.Nat.{◌*◌}
-use native.Mathlib.Omega.{arith}
-use lib.ListN.{length, take}
-use lib.Seq.{take_at}
-use Rattle.facts.specs.declared.Answer.TheVariants.{Done}
+use Rattle.std.proofs.Common.{◌≡◌, sym, ap, ◌∙◌, arith, rules, Err}
+use Rattle.std.proofs.Math.Seq.{length-take-le}
+use Rattle.facts.specs.Results.{Done}
 use Rattle.table.specs.Tables.{row_of, table_of}
-use Rattle.table.proofs.Rows.{row-length, scan-passes, scan-stops, accepted-size, loaded-accepted, settle-refused, settle-short, settle-done}
+use Rattle.table.proofs.Rows.{row-length, passes-loaded, scan-stops, settle-refused, settle-short, settle-done}
 use Rattle.reader.proofs.read.Goals as goal
+
+pub returns-in_err-n : goal.returns-in_err-n
+returns-in_err-n c =
+    let t = table_of c.args.bytes.now in
+    let e = settle-refused row_of t c.args.row.now _ _ (scan-stops t _ _ (sym c.in_err-n.ensures.answer)) in
+    let r : c.from_residual.result ≡ Err c.in_err-n.field-0.0 = search rules in
+    record { call = record { answer = r ∙ sym e.0; memory = sym e.1 } }
 
 pub returns-then-row-count : goal.returns-then-row-count
 returns-then-row-count c =
-    let b = c.args.bytes.now in
-    let p = scan-passes (table_of b) c.in-Passes.n (sym c.load.ensures.answer ∙ c.in-Passes.is) in
-    let row = c.args.row.now in
-    let e = settle-short row_of (table_of b) row p.0 p.1 (rw row-length (omega (arith, p.2))) in record { call = record { answer = sym e.0; memory = sym e.1 } }
+    let p = passes-loaded c.args.bytes.now c.in_ok-n.n _ _ c.in_ok-n.ensures.answer c.load.ensures.facts in
+    let e = settle-short row_of (table_of c.args.bytes.now) c.args.row.now p.0 p.1 (rw row-length (omega (arith, p.2))) in
+    record { call = record { answer = rw c.from.ensures (sym e.0); memory = sym e.1 } }
 
-pub copy-requires : goal.copy-requires
-copy-requires c =
-    let b = c.args.bytes.now in
-    let p = scan-passes (table_of b) c.in-Passes.n (sym c.load.ensures.answer ∙ c.in-Passes.is) in
-    let few = accepted-size b p.0 p.1 in
-    (omega (arith, few.1, p.2, c.load.auto.row), omega arith)
+pub slice_bounds-facts-end : goal.slice_bounds-facts-end
+slice_bounds-facts-end c =
+    let p = passes-loaded c.args.bytes.now c.in_ok-n.n _ _ c.in_ok-n.ensures.answer c.load.ensures.facts in
+    omega (arith, p.3, c.load.auto.facts)
 
-pub returns-in-Stops : goal.returns-in-Stops
-returns-in-Stops c =
-    let b = c.args.bytes.now in
-    let e = settle-refused row_of (table_of b) c.args.row.now _ _ (scan-stops (table_of b) _ _ (sym c.load.ensures.answer ∙ c.in-Stops.is)) in record { call = record { answer = sym e.0; memory = sym e.1 } }
+pub slice_bounds-read-end : goal.slice_bounds-read-end
+slice_bounds-read-end c =
+    let p = passes-loaded c.args.bytes.now c.in_ok-n.n _ _ c.in_ok-n.ensures.answer c.load.ensures.facts in
+    sym (length-take-le c.in_ok-n.n c.load.new.facts (omega (arith, p.3, c.load.auto.facts)))
 
-pub returns-else-row-count : goal.returns-else-row-count
-returns-else-row-count c =
-    let b = c.args.bytes.now in
-    let p = scan-passes (table_of b) c.in-Passes.n (sym c.load.ensures.answer ∙ c.in-Passes.is) in
-    let n = c.in-Passes.n in
-    let row = c.args.row.now in
-    let facts = c.load.new.row in
-    let long : length (row_of p.0) ≡ 3 * n = row-length p.0 ∙ ap (λ k. 3 * k) p.2 in
-    let front : take (3 * n) facts ≡ row_of p.0 = rw (c.load.ensures.facts, loaded-accepted b p.0 p.1) (take_at (row_of p.0) _ (3 * n) long) in
-    let e = settle-done row_of (table_of b) row p.0 p.1 (omega arith) in record { call = record { answer = ap Done (sym p.2) ∙ sym e.0; memory = c.copy.ensures ∙ rw front (sym e.1) } }
+pub returns : goal.returns
+returns c =
+    let p = passes-loaded c.args.bytes.now c.in_ok-n.n _ _ c.in_ok-n.ensures.answer c.load.ensures.facts in
+    let e = settle-done row_of (table_of c.args.bytes.now) c.args.row.now p.0 p.1 (rw row-length (omega (arith, p.2))) in
+    record { call = record { answer = ap Done (sym p.2) ∙ sym e.0; memory = c.spread.ensures ∙ rw p.4 (sym e.1) } }

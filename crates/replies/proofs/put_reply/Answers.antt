@@ -9,13 +9,12 @@ use Rattle.replies.proofs.put_reply.Goals as goal
 
 pub put_code-requires : goal.put_code-requires
 put_code-requires c =
-    let s = c in
     let q = c.question-a in
-    let e = reply-answer s.args.table.now s.args.q s.args.out.now _ q.result s.requires q.ensures.call in
-    (search rules, code_below _ s.args.q.fact s.args.q.limit _ _ (omega arith) e)
+    let e = reply-answer c.args.table.now c.args.q c.args.out.now _ q.result c.requires q.ensures.call in
+    (search rules, code_below _ c.args.q.fact c.args.q.limit _ _ (omega arith) e)
 
 pub returns : goal.returns
 returns c =
-    let s = c in
     let q = c.question-a in
-    let p = reply-put s.args.table.now s.args.q s.args.out.now _ q.result s.requires q.ensures.call in record { length = c.reply_bytes.ensures ∙ p.0; bytes = c.put_code.ensures ∙ p.1 }
+    let p = reply-put c.args.table.now c.args.q c.args.out.now _ q.result c.requires q.ensures.call in
+    record { length = c.reply_bytes.ensures ∙ p.0; bytes = c.put_code.ensures ∙ p.1 }

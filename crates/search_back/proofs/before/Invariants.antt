@@ -4,7 +4,4 @@ use Rattle.question.proofs.Steps.{Looking}
 use Rattle.search_back.proofs.before.Given as goal
 
 abbrev pub invariant-loop-q : goal.invariant-loop-q
-invariant-loop-q l = Looking l.row l.n l.w l.mark l.queue l.m l.b l.top l.at l.q
-
-abbrev pub decreases-loop-q : goal.decreases-loop-q
-decreases-loop-q l = l.q
+invariant-loop-q l = Looking l.facts l.w l.s.mark l.s.queue l.m l.b l.top l.at l.q

@@ -1,11 +1,7 @@
 -- `search_layers::seed` meets its contract: each start is marked and queued in the layer 1, up to one that is a goal.
 -- Assumes nothing.
-use Prim.Native.Nat.{◌-◌}
 use Rattle.question.proofs.Marks.{Seeding}
 use Rattle.search_layers.proofs.seed.Given as goal
 
 abbrev pub invariant-loop-j : goal.invariant-loop-j
-invariant-loop-j l = Seeding l.row l.n l.w l.t l.j l.s
-
-abbrev pub decreases-loop-j : goal.decreases-loop-j
-decreases-loop-j l = l.end - l.j
+invariant-loop-j l = Seeding l.facts l.w l.t l.j l.s

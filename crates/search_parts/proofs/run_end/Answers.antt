@@ -1,28 +1,20 @@
--- `search_parts::run_end` meets its contract: from `lo` on the subjects are x, up to the first that is above it.
+-- `search_parts::run_end` meets its contract: the facts counted are those up to the first with a subject above x.
 -- Assumes nothing.
-use native.Mathlib.Omega.{arith}
-use Rattle.table.specs.Tables.{row_fact}
-use Rattle.question.proofs.Laws.{equal-or}
+use Rattle.std.proofs.Common.{◌≡◌, ℕ, ◌+◌, List, drop, length-drop, leb, ap, ◌∙◌, arith, rules, tests}
+use Rattle.std.proofs.lemmas.List.{take_all}
+use Rattle.std.proofs.lemmas.Iterator.{YieldsList-from_slice}
+use Rattle.std.proofs.lemmas.Iterator.Consumers.{count_from_yields_List}
+use Rattle.std.proofs.lemmas.Iterator.Search.{YieldsList-from_take_while}
+use Rattle.std.proofs.lemmas.List.Folds.{length-prefix_len}
+use Rattle.facts.specs.declared.Fact.{Fact}
+use Rattle.question.proofs.Parts.{run-cut}
 use Rattle.search_parts.proofs.run_end.Goals as goal
 
-pub loop-hi-init : goal.loop-hi-init
-loop-hi-init c = (c.requires.1.within, λ k h. omega (arith, c.requires.1.below k h))
-
-pub returns-then-x-row : goal.returns-then-x-row
-unfolding row_fact
-returns-then-x-row c = let l = c.loop-hi in record {
-  within = l.invariant.0;
-  below = l.invariant.1;
-  above = λ k h g. omega (
-    arith,
-    c.requires.0.rises l.hi k h g,
-    c.if-x-row.true,
-  );
-}
-
-pub loop-hi-preserved : goal.loop-hi-preserved
-unfolding row_fact
-loop-hi-preserved c = let l = c.loop-hi in (omega arith, λ k h. equal-or k l.hi (λ e. rw e (omega (arith, c.if-x-row.false))) (λ e. l.invariant.1 k (omega (arith, e))))
-
 pub returns : goal.returns
-returns c = let l = c.loop-hi in record { within = l.invariant.0; below = l.invariant.1; above = λ k h g. absurd (omega (arith, c.loop-hi-test.false)) }
+returns c =
+    let a = c.args in
+    let rest : List Fact = drop a.lo a.facts.now in
+    let source : c.take_while.result.iter.rest.now ≡ rest = rw (c.take_while.ensures.source, c.iter.ensures.rest) (take_all _ rest (omega (arith, length-drop a.lo a.facts.now))) in
+    let count = count_from_yields_List c.take_while.result c.count.result c.count.ensures.ran
+    (YieldsList-from_take_while _ (λ f. leb f.subject a.x) (YieldsList-from_slice rest source) c.take_while.ensures.closure c.take_while.ensures.done (λ f b q k. search (rules, tests))) in
+    run-cut a.facts.now a.x c.requires.0 a.lo _ c.requires.1 (ap (λ (k : ℕ). a.lo + k) (count ∙ length-prefix_len _ rest))

@@ -8,6 +8,6 @@ pub returns-then-first-eq-QUOTE : goal.returns-then-first-eq-QUOTE
 unfolding next_of
 returns-then-first-eq-QUOTE c = rw (eq-eqb _ 34 c.if-first-eq-QUOTE.true)
 
-pub returns : goal.returns
+pub returns-else-first-eq-QUOTE : goal.returns-else-first-eq-QUOTE
 unfolding next_of
-returns c = rw (ne_eqb _ 34 c.if-first-eq-QUOTE.false)
+returns-else-first-eq-QUOTE c = rw (ne_eqb _ 34 c.if-first-eq-QUOTE.false)
