@@ -103,18 +103,18 @@ derivation-below {facts} {t} {d} wf few derives i z h = justified-below wf (rw l
 after-accepted : (s : Scan) (a : Answer) (c : ℕ) → after s a ≡ Accepted c → ((m : ℕ) × (s ≡ Passes m)) × (a ≡ Accepted c)
 unfolding after
 after-accepted (Passes m) a c e = ((m, refl), e)
-after-accepted (Err stop) a c e = let z : ◌≡◌ {A = ℕ} 0 1 = cc in absurd (omega arith)
+after-accepted (Err stop) a c e = cc
 
 picked : (b : Bool) (r : Refusal) → cond b Sound (Faulty r) ≡ Sound → b ≡ true
 picked true r e = refl
-picked false r e = let z : ◌≡◌ {A = ℕ} 0 1 = cc in absurd (omega arith)
+picked false r e = cc
 
 end-says : (t : Fact) (x : List ℕ) (n c : ℕ) → end_answer t x n ≡ Accepted c → ((line_at x (n - 1)).fact ≡ t) × (table_lines (lines_of x n) ≡ c)
 unfolding end_answer
 end-says t x n c e =
     by_cases (same (line_at x (n - 1)).fact t)
     (λ p. let q : Accepted (table_lines (lines_of x n)) ≡ Accepted c = rw p at e in (same-eq _ t (T_of _ p), cc))
-    (λ p. let q : Refused End n ≡ Accepted c = rw p at e in let z : ◌≡◌ {A = ℕ} 0 1 = cc in absurd (omega arith))
+    (λ p. let q : Refused End n ≡ Accepted c = rw p at e in cc)
 
 lines-say : (facts : List Fact) (t : Fact) (x : List ℕ) (n c : ℕ) → 0 < n → n ≤ 2047 → length x ≡ 31 * n → lines_answer facts t x n ≡ Accepted c → DerivationOf facts t x c
 unfolding lines_answer form_verdict step_verdict
@@ -144,7 +144,7 @@ derivation-says facts t x c e =
     let pos = ltb-true 0 (length x) b.0 in
     let fits = sized-says 31 63457 (length x) b.1 in
     lines-say facts t x (length x / 31) c (omega arith) (omega arith) (omega arith) q)
-    (λ p. let q : Refused Form 0 ≡ Accepted c = rw p at e in let z : ◌≡◌ {A = ℕ} 0 1 = cc in absurd (omega arith))
+    (λ p. let q : Refused Form 0 ≡ Accepted c = rw p at e in cc)
 
 -- ---- from the derivation to the answer
 

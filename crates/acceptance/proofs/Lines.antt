@@ -1,6 +1,6 @@
 -- The lines of a derivation's bytes by their numbers, and how many of them are table lines.
 -- Assumes nothing.
-use mathlib.Core.Path.{◌≡◌, refl}
+use mathlib.Core.Path.{◌≡◌, refl, ◌∙◌}
 use mathlib.Core.Bool.{cond}
 use mathlib.Core.Option.{none, some}
 use mathlib.Core.List.{List, [], ◌∷◌, ◌++◌}
@@ -11,6 +11,8 @@ use native.Mathlib.Numerals.{add-one}
 use lib.Dec.{eqb}
 use Rattle.columns.specs.Lines.{items_from}
 use Rattle.columns.proofs.Lists.{items_more}
+use Rattle.std.specs.Prelude.{Option, Some, MatchOption}
+use Rattle.facts.specs.declared.Fact.{Fact}
 use Rattle.facts.proofs.Terms.{by_cases}
 use Rattle.rules.specs.declared.Line.{Line}
 use Rattle.rules.specs.Graph.{keep}
@@ -45,6 +47,11 @@ fact-there x i (suc k) z h = let e : suc k - 1 ≡ 0 + k = omega arith in rw e (
 pub fact-missing : (x : List ℕ) (i k : ℕ) → i < k → fact_on (lines_of x i) k ≡ none
 fact-missing x i zero h = absurd (omega arith)
 fact-missing x i (suc k) h = fact_on-beyond (line_at x) i 0 k (omega arith)
+
+-- what is at hand as the fact on the line at place j, as an answer for line j + 1
+pub fact-near : (x : List ℕ) (i k j : ℕ) (p : Option Fact) → p ≡ Some (line_at x j).fact → j + 1 ≡ k → k ≤ i
+    → MatchOption p (fact_on (lines_of x i) k ≡ none) (λ f. fact_on (lines_of x i) k ≡ some f)
+fact-near x i k j p e h l = let t : k - 1 ≡ j = omega arith in rw e (fact-there x i k (λ z. omega arith) l ∙ rw t)
 
 -- ---- table lines
 

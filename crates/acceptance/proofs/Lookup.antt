@@ -1,24 +1,27 @@
 -- Looking a fact up among facts in ascending order.
 -- Assumes nothing.
 use mathlib.Core.Path.{◌≡◌, refl, sym, ap, ◌∙◌}
-use mathlib.Core.Bool.{Bool, true, false, true≢false}
+use mathlib.Core.Logic.{⊎_elim}
+use mathlib.Core.Bool.{Bool, true, false}
 use mathlib.Core.List.{List, [], ◌∷◌}
-use Prim.Native.Nat.{ℕ, zero, suc, ◌≤◌, ◌<◌}
+use Prim.Native.Nat.{ℕ, zero, suc, ◌+◌, ◌<◌}
 use native.Mathlib.Omega.{arith}
 use native.Mathlib.Decide.{dec_lt}
 use lib.ListN.{length, get_or}
-use lib.Dec.{T, eqb, ltb}
-use borrow.Author.Tests.{eqb-true, eq-eqb, le-ltb}
+use lib.Dec.{T}
 use Rattle.std.specs.Prelude.{Result, Ok, Err}
+use Rattle.std.specs.Cmp.{IsTotalOrder}
 use Rattle.std.specs.List.{HoldsAt}
 use Rattle.std.specs.List.Sorted.{IsNonDecreasingBy, IsBinarySearchResult, IsPartitionPoint, IsSearchInRange}
 use Rattle.std.proofs.Common.{Ordering, Less, Equal, Greater}
 use Rattle.std.specs.Ordering.{is_lt, ordering_index, ordering_then, nat_cmp}
 use Rattle.std.specs.Result.{is_ok, IfOk}
+use Rattle.std.proofs.lemmas.Cmp.{nat_cmp_total, on_total, then_total, tied_itself, tied_back}
+use Rattle.std.proofs.lemmas.List.Sorted.{searchable_from_sorted}
 use Rattle.facts.specs.declared.Fact.{Fact}
 use Rattle.facts.specs.Facts.{before}
 use Rattle.facts.proofs.Terms.{by_cases, T_of, of_T}
-use Rattle.facts.proofs.Facts.{fact-eq, before-transitive}
+use Rattle.facts.proofs.Facts.{before-irreflexive, before-transitive, before-total}
 use Rattle.facts.proofs.Order.{ordered-before}
 use Rattle.table.proofs.Lists.{ascends-at}
 use Rattle.rules.specs.Graph.{any}
@@ -31,77 +34,24 @@ use Rattle.acceptance.specs.Holds.{Ascends}
 abbrev ordered : Fact → Fact → Ordering
 ordered a b = ordering_then (nat_cmp a.subject b.subject) (ordering_then (nat_cmp a.predicate b.predicate) (nat_cmp a.object b.object))
 
-less-is : (a b : Fact) → T (before a b) → ordered a b ≡ Less
-less-is a b t = go (ordered a b) (ordered-before a b ∙ of_T (before a b) t)
-  where
-    go : (o : Ordering) → is_lt o ≡ true → o ≡ Less
-    go Less e = refl
-    go Equal e = absurd (true≢false (sym e))
-    go Greater e = absurd (true≢false (sym e))
-
-less-says : (a b : Fact) → ordered a b ≡ Less → T (before a b)
-less-says a b e = T_of (before a b) (sym (ordered-before a b) ∙ ap is_lt e)
-
-less-equal : Less ≡ Equal → ⊥
-less-equal e = let z : ◌≡◌ {A = ℕ} 0 1 = ap ordering_index e in absurd (omega arith)
-
-greater-equal : Greater ≡ Equal → ⊥
-greater-equal e = let z : ◌≡◌ {A = ℕ} 2 1 = ap ordering_index e in absurd (omega arith)
-
-equal-term : (x y : ℕ) → nat_cmp x y ≡ Equal → x ≡ y
-equal-term x y e = by_cases (ltb x y) (λ l. absurd (less-equal (rw l at e))) (λ l. by_cases (eqb x y) (λ g. eqb-true x y g) (λ g. absurd (greater-equal (rw (l, g) at e))))
-
-self-term : (x : ℕ) → nat_cmp x x ≡ Equal
-self-term x = let l : ltb x x ≡ false = le-ltb x x (omega arith) in rw (l, eq-eqb x x refl)
-
-equal-self : (a : Fact) → ordered a a ≡ Equal
-equal-self a = simp (self-term a.subject, self-term a.predicate, self-term a.object)
-
-both_equal : (o p : Ordering) → ordering_then o p ≡ Equal → (o ≡ Equal) × (p ≡ Equal)
-both_equal Less p e = absurd (less-equal e)
-both_equal Equal p e = (refl, e)
-both_equal Greater p e = absurd (greater-equal e)
+total : IsTotalOrder ordered
+total = then_total (on_total (λ a. a.subject) nat_cmp_total) (then_total (on_total (λ a. a.predicate) nat_cmp_total) (on_total (λ a. a.object) nat_cmp_total))
 
 equal-says : (a b : Fact) → ordered a b ≡ Equal → a ≡ b
-equal-says a b e =
-    let s = both_equal (nat_cmp a.subject b.subject) _ e in
-    let p = both_equal (nat_cmp a.predicate b.predicate) _ s.1 in
-    fact-eq a b (equal-term _ _ s.0) (equal-term _ _ p.0) (equal-term _ _ p.1)
-
--- against a third, what comes behind in the order answers no less
-rises : (x y f : Fact) → T (before x y) → ordering_index (ordered x f) ≤ ordering_index (ordered y f)
-rises x y f b = go (ordered y f) refl
+equal-says a b e = ⊎_elim (λ t. absurd (not-before a b e t)) (⊎_elim (λ k. k) (λ t. absurd (not-before b a (tied_back total a b e) t))) (before-total a b)
   where
-    most : (o : Ordering) → ordering_index o ≤ 2
-    most Less = omega arith
-    most Equal = omega arith
-    most Greater = omega arith
+    not-before : (x y : Fact) → ordered x y ≡ Equal → T (before x y) → ⊥
+    not-before x y g t = let z : is_lt Equal ≡ true = sym (ap is_lt g) ∙ ordered-before x y ∙ of_T (before x y) t in cc
 
-    go : (o : Ordering) → ordered y f ≡ o → ordering_index (ordered x f) ≤ ordering_index o
-    go Less e = rw (less-is x f (before-transitive x y f b (less-says y f e))) (omega arith)
-    go Equal e = rw (less-is x f (rw (equal-says y f e) at b)) (omega arith)
-    go Greater e = most (ordered x f)
+-- of two facts, one of which comes before the other, the other does not
+not-back : (a b : Fact) → T (before a b) → is_lt (ordered b a) ≡ false
+not-back a b t = ordered-before b a ∙ by_cases (before b a) (λ g. absurd (before-irreflexive a (before-transitive a b a t (T_of _ g)))) (λ e. e)
 
--- ---- facts in ascending order
-
-module _ (facts : List Fact) (a : Ascends facts) where
-  in_order : (k i : ℕ) (d : Fact) → i < k → k < length facts → T (before (get_or facts i d) (get_or facts k d))
-  in_order zero i d h l = absurd (omega arith)
-  in_order (suc k) i d h l = go (dec_lt i k) (in_order k i d)
-    where
-      next : T (before (get_or facts k d) (get_or facts (suc k) d))
-      next = ascends-at facts k d (T_of _ a) l
-
-      go : Dec (i < k) → (i < k → k < length facts → T (before (get_or facts i d) (get_or facts k d))) → T (before (get_or facts i d) (get_or facts (suc k) d))
-      go (yes p) rest = before-transitive (get_or facts i d) (get_or facts k d) (get_or facts (suc k) d) (rest p (omega arith)) next
-      go (no p) rest = let e : i ≡ k = omega arith in rw e next
-
-  not-lower : (f : Fact) → IsNonDecreasingBy (λ y. ordering_index (ordered y f)) facts
-  not-lower f i j d h l = go (dec_lt i j)
-    where
-      go : Dec (i < j) → ordering_index (ordered (get_or facts i d) f) ≤ ordering_index (ordered (get_or facts j d) f)
-      go (yes p) = rises (get_or facts i d) (get_or facts j d) f (in_order j i d p l)
-      go (no p) = let e : i ≡ j = omega arith in rw e (omega arith)
+-- against a third, what comes later in ascending order answers no less
+not-lower : (facts : List Fact) (f : Fact) → Ascends facts → IsNonDecreasingBy (λ y. ordering_index (ordered y f)) facts
+not-lower facts f a =
+    searchable_from_sorted total (λ y. y) facts f
+    (λ k d _ h. let e : k + 1 ≡ suc k = omega arith in rw e (not-back _ _ (ascends-at facts k d (T_of _ a) (omega arith))))
 
 -- ---- the search
 
@@ -121,13 +71,13 @@ pub look_up : (facts : List Fact) (f : Fact) (r : Result ℕ ℕ) → Ascends fa
     → IsBinarySearchResult (λ y. ordered y f) facts r → is_ok r ≡ any (same f) facts
 look_up facts f (Ok i) a b h s = sym (any-at (same f) facts i f b (rw (equal-says (get_or facts i f) f (h f)) (of_T _ (same_self f))))
 look_up facts f (Err i) a b h s =
-    let parts = s (not-lower facts a f) in
+    let parts = s (not-lower facts f a) in
     sym (any-none (same f) facts (λ k d l. not-there (get_or facts k d) (λ e. split k d l e parts (dec_lt k i))))
   where
     not-there : (x : Fact) → (ordered x f ≡ Equal → ⊥) → same f x ≡ false
-    not-there x n = by_cases (same f x) (λ e. absurd (n (rw (same-eq f x (T_of _ e)) (equal-self x)))) (λ e. e)
+    not-there x n = by_cases (same f x) (λ e. absurd (n (rw (same-eq f x (T_of _ e)) (tied_itself total x)))) (λ e. e)
 
     split : (k : ℕ) (d : Fact) → k < length facts → ordered (get_or facts k d) f ≡ Equal
         → IsPartitionPoint (λ y. ordered y f ≡ Less) (λ y. ordered y f ≡ Greater) facts i → Dec (k < i) → ⊥
-    split k d l e parts (yes p) = less-equal (sym (parts.0 k d (omega arith) p) ∙ e)
-    split k d l e parts (no p) = greater-equal (sym (parts.1 k d (omega arith) l) ∙ e)
+    split k d l e parts (yes p) = (let z : Less ≡ Equal = sym (parts.0 k d (omega arith) p) ∙ e in cc)
+    split k d l e parts (no p) = (let z : Greater ≡ Equal = sym (parts.1 k d (omega arith) l) ∙ e in cc)

@@ -34,7 +34,7 @@ fn is_of_quoted(b: u8) -> bool
     }
 }
 
-// The byte is of the class.
+// The byte is of the class. A class by name and no closure over bytes: the definitions of the grammar name classes, and so do the contracts.
 #[tactic(auto, unfolding(ntriples::specs::Classes::belongs))]
 pub fn is_of(c: Class, b: u8) -> bool
     ensures value { result ≡ belongs c b }
@@ -59,7 +59,7 @@ pub fn is_of(c: Class, b: u8) -> bool
     }
 }
 
-// The byte at a place, or a line end behind the last. A line and a place stay two parameters, here and above: only the places go on, so that a
+// The byte at a place, or a line end behind the last. A line and a place stay two parameters, here and in the crates above: only the places go on, so that a
 // struct of both would be built anew at each step, and say no more.
 pub fn byte_at(s: &[u8], at: usize) -> u8
     ensures value { result ≡ byte_at s.now at }

@@ -9,8 +9,8 @@ ghost use Rattle.std.specs.Io.KnownBytes.{Appends, Consumes, IsAtEnd};
 ghost use Rattle.columns.specs.Lines.{width, line, laid_out, numbers_at};
 ghost use Rattle.case_runner.specs.Cases.{Case, Ran, RanAll};
 
+use std::io;
 use std::io::{Read, Write};
-use std::{array, io};
 
 // The most fields of a line, and its bytes.
 const FIELDS_MOST: usize = 6;
@@ -20,15 +20,16 @@ const LINE_MOST: usize = 5 * FIELDS_MOST + 1;
 // A number of more than five digits.
 const SIX_DIGITS: u32 = 100000;
 
-// The numbers of the line of so many fields at the front of some bytes, if one stands there.
+// The numbers of the line of so many fields at the front of some bytes, if one stands there. Six at most, by a clause: a const parameter has no
+// other bound.
 pub fn head<const FIELDS: usize>(bytes: &[u8]) -> Option<[u32; FIELDS]>
     requires { FIELDS ≤ 6 }
     ensures { result ≡ cond (leb (width FIELDS) (length bytes.now) && laid_out FIELDS bytes.now 0) (Some (numbers_at FIELDS bytes.now 0)) None }
 {
-    if bytes.len() < 5 * FIELDS + 1 || !line_layout::is_laid_out(FIELDS, bytes, 0) {
+    if bytes.len() < 5 * FIELDS + 1 {
         return None;
     }
-    Some(array::from_fn(|i| digit_reader::number_at(bytes, 5 * i)))
+    line_layout::numbers_at::<FIELDS>(bytes, 0)
 }
 
 // Every item is the value.
@@ -67,7 +68,8 @@ pub trait Cases<const FIELDS: usize> {
         ensures { Ran (ran self.old) (ran self.new) ((numbers.entry, bytes.now) ∷ []) };
 }
 
-// Runs the cases of an input one after the other, up to the first that is none.
+// Runs the cases of an input one after the other, up to the first that is none. No `for`: a case's own numbers say where the next begins, and
+// the cases that say it are lent to each run.
 pub fn run_all<const FIELDS: usize, C: Cases<FIELDS>>(input: &[u8], cases: &mut C)
     requires { FIELDS ≤ 6 }
     ensures { RanAll FIELDS C.behind (C.ran cases.old) (C.ran cases.new) input.now }

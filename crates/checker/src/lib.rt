@@ -8,20 +8,22 @@ ghost use Rattle.acceptance.specs.Check.{derivation_answer, check_answer, Judges
 
 use checker_lines::Table;
 use checker_pass::check_lines;
+use checker_refusals::Derivation;
 use derivation_lines::{DERIVATION_BYTES, LINE_BYTES};
 use facts::{Answer, Fact, NO_FACT, Refusal, Refused};
 use table::PLACES;
 
 // The check of a derivation over a table's facts.
 #[tactic(auto, unfolding(acceptance::specs::Check::derivation_answer, table::specs::Tables::sized))]
-fn check_derivation(table: Table, fact: Fact, derivation: &[u8]) -> Answer
-    ensures { result ≡ derivation_answer table.entry.facts.now fact derivation.now }
+fn check_derivation(table: Table, fact: Fact, bytes: &[u8]) -> Answer
+    ensures { result ≡ derivation_answer table.entry.facts.now fact bytes.now }
 {
-    let size = derivation.len();
+    let size = bytes.len();
     if (size == 0) | (size % LINE_BYTES != 0) | (DERIVATION_BYTES < size) {
         return Err(Refused::from(Refusal::Form));
     }
-    check_lines(table, fact, derivation, size / LINE_BYTES)
+    let lines = size / LINE_BYTES;
+    check_lines(table, fact, Derivation { bytes, lines })
 }
 
 // Judges a derivation of the fact from the table: accepted with the number of its table lines, or the first refusal.

@@ -43,8 +43,8 @@ impl Table<'_> {
 pub struct Before<'a> {
     pub derivation: &'a [u8],
     pub count: usize,
-    pub last: Fact,
-    pub second_last: Fact,
+    pub last: Option<Fact>,
+    pub second_last: Option<Fact>,
     pub ghost behind: { Behind derivation.now count last second_last },
 }
 
@@ -56,8 +56,8 @@ impl Before<'_> {
         let place = (k as usize).checked_sub(1)?;
         match self.count.saturating_sub(place) {
             0 => None,
-            1 => Some(self.last),
-            2 => Some(self.second_last),
+            1 => self.last,
+            2 => self.second_last,
             _ => Some(derivation_lines::fact_at(self.derivation, place)),
         }
     }

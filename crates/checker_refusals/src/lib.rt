@@ -1,9 +1,10 @@
 // Part of the check: what it answers at the first line that is not justified, and behind the last line.
 #![tactic(auto)]
 
-ghost use Rattle.std.specs.Prelude.{◌≡◌, cond, ◌+◌, ◌-◌, ◌*◌, ◌≤◌, ◌<◌, length};
+ghost use Rattle.std.specs.Prelude.{◌≡◌, Some, cond, ◌+◌, ◌-◌, ◌*◌, ◌≤◌, ◌<◌, length};
+ghost use Rattle.std.specs.Option.{option_eq};
 ghost use Rattle.facts.specs.declared.Refusal.TheVariants.{Step, End};
-ghost use Rattle.facts.specs.Results.{Accepted, Refused, refused_at};
+ghost use Rattle.facts.specs.Results.{Accepted, Refused};
 ghost use Rattle.table.specs.Scans.{scan};
 ghost use Rattle.rules.specs.Steps.{same};
 ghost use Rattle.acceptance.specs.Check.{form_verdict, after};
@@ -15,48 +16,51 @@ use table::Scan;
 // The fields of a derivation line.
 const LINE_FIELDS: usize = 6;
 
-// A refusal of line i, counted from 0.
-fn refused(refusal: Refusal, i: usize) -> facts::Refused
-    requires { i < 2047 }
-    ensures { result ≡ refused_at refusal (i + 1) }
-{
-    facts::Refused {
-        refusal: refusal,
-        place: (i + 1) as u32,
-    }
+// A derivation's bytes, with the number of its lines: 1 to 2,047.
+#[derive(Clone, Copy)]
+pub struct Derivation<'a> {
+    pub bytes: &'a [u8],
+    pub lines: usize,
+    pub ghost some: { 0 < lines },
+    pub ghost few: { lines ≤ 2047 },
+    pub ghost there: { 31 * lines ≤ length bytes.now },
 }
 
-// The first line, from one on, that is badly laid out.
-fn scan_layout(derivation: &[u8], from: usize, n: usize) -> Scan
-    requires { (from ≤ n) × (n ≤ 2047) × (31 * n ≤ length derivation.now) }
-    ensures { result ≡ scan (form_verdict derivation.now) from (n - from) }
-{
-    for i in from..n {
-        if !line_layout::is_laid_out(LINE_FIELDS, derivation, LINE_BYTES * i) {
-            return Err(refused(Refusal::Form, i));
+impl Derivation<'_> {
+    // The first line, from one on, that is badly laid out.
+    #[tactic(auto, using(acceptance::proofs::Pass::forms_on, acceptance::proofs::Pass::forms_stop, acceptance::proofs::Pass::forms_end))]
+    fn scan_layout(self, from: usize) -> Scan
+        requires { from ≤ self.lines }
+        ensures { result ≡ scan (form_verdict self.entry.bytes.now) from (self.entry.lines - from) }
+    {
+        for i in from..self.lines {
+            if !line_layout::is_laid_out(LINE_FIELDS, self.bytes, LINE_BYTES * i) {
+                return Err(facts::Refused::on_line(Refusal::Form, i));
+            }
         }
+        Ok(self.lines as u32)
     }
-    Ok(n as u32)
+
+    // The refusal where line i is the first that is not justified: 9 comes before 10, so a later line that is badly laid out, if
+    // there is one, is refused.
+    #[tactic(auto, unfolding(acceptance::specs::Check::after))]
+    pub fn refuse_step(self, i: usize) -> Answer
+        requires { i < self.lines }
+        ensures { result ≡ after (scan (form_verdict self.entry.bytes.now) (i + 1) (self.entry.lines - (i + 1))) (Refused Step (i + 1)) }
+    {
+        self.scan_layout(i + 1)?;
+        Err(facts::Refused::on_line(Refusal::Step, i))
+    }
 }
 
-// The refusal where line i is the first that is not justified: 9 comes before 10, so a later line that is badly laid out, if there
-// is one, is refused.
-#[tactic(auto, unfolding(acceptance::specs::Check::after))]
-pub fn refuse_step(derivation: &[u8], i: usize, n: usize) -> Answer
-    requires { (i < n) × (n ≤ 2047) × (31 * n ≤ length derivation.now) }
-    ensures { result ≡ after (scan (form_verdict derivation.now) (i + 1) (n - (i + 1))) (Refused Step (i + 1)) }
-{
-    scan_layout(derivation, i + 1, n)?;
-    Err(refused(Refusal::Step, i))
-}
-
-// The end of the check of n lines that are all justified, with the fact on the last of them and the number of table lines.
+// The end of the check of n lines that are all justified, with the fact on the last of them and the number of table lines. The place of
+// its refusal is n itself: there may be no line.
 #[tactic(auto, unfolding(rules::specs::Steps::same))]
-pub fn check_end(last: Fact, fact: Fact, count: u32, n: usize) -> Answer
+pub fn check_end(last: Option<Fact>, fact: Fact, count: u32, n: usize) -> Answer
     requires { n ≤ 2047 }
-    ensures { result ≡ cond (same last fact) (Accepted count) (Refused End n) }
+    ensures { result ≡ cond (option_eq same last (Some fact)) (Accepted count) (Refused End n) }
 {
-    if last == fact {
+    if last == Some(fact) {
         Ok(Outcome::Accepted(count))
     } else {
         Err(facts::Refused {

@@ -7,8 +7,9 @@ use Prim.Native.Nat.{ℕ, zero, suc, ◌+◌, ◌*◌, ◌≤◌, ◌<◌}
 use native.Mathlib.Omega.{arith}
 use native.Mathlib.Nat.{add-zero, zero-add, add_comm, mul-zero, mul-suc, mul-le-mul_left}
 use native.Mathlib.Numerals.{add-one}
-use lib.ListN.{length, get_or, drop, length-append, drop_of_length-le}
-use lib.Seq.{drop_at, drop-drop, drop-cons}
+use lib.ListN.{length, get_or, set, drop, length-append, drop_of_length-le}
+use lib.Seq.{drop_at, drop-drop, drop-cons, set_at}
+use Rattle.columns.specs.Fields.{number_at}
 use Rattle.columns.specs.Lines.{line, width, numbers_at, laid_out, Below, flat, items_from}
 use Rattle.columns.proofs.Lines.{line-length, line_read, line-written}
 
@@ -52,6 +53,11 @@ module _ {A : Type 0} where
   items_more at i zero = rw add-zero
   items_more at i (suc n) = let e : i + suc n ≡ suc i + n = omega arith in rw (e, ← items_more at (suc i) n)
 
+  -- and put behind those that stand over the front of a list
+  pub items_put : (at : ℕ → A) (old : List A) (i : ℕ) → i < length old → set (items_from at 0 i ++ drop i old) i (at i) ≡ items_from at 0 (suc i) ++ drop (suc i) old
+  items_put at old i h =
+      rw (drop-cons old i (at i) h, items_more at 0 i, zero-add, append_assoc) (set_at (items_from at 0 i) _ (drop (suc i) old) (at i) i (items-length at 0 i))
+
   pub flat-more : (g : A → List ℕ) (at : ℕ → A) (i : ℕ) → flat g (items_from at 0 (i + 1)) ≡ flat g (items_from at 0 i) ++ g (at i)
   flat-more g at i = rw (add-one, items_more, flat_append, zero-add) (ap (λ l. flat g (items_from at 0 i) ++ l) (unfold flat in append-nil (g (at i))))
 
@@ -62,6 +68,14 @@ module _ {A : Type 0} where
   items-listed at (x ∷ xs) i d h =
       rw (rw add-zero at (h 0 (omega arith)))
       (ap (λ l. x ∷ l) (items-listed at xs (suc i) d (λ j k. let t : suc i + j ≡ i + suc j = omega arith in rw t (h (suc j) (omega arith)))))
+
+-- the numbers of k fields, one by one
+pub numbers-items : (k : ℕ) (s : List ℕ) (at i : ℕ) → numbers_at k s (at + 5 * i) ≡ items_from (λ j. number_at s (at + 5 * j)) i k
+unfolding numbers_at items_from
+numbers-items zero s at i = refl
+numbers-items (suc k) s at i =
+    let e : at + 5 * i + 5 ≡ at + 5 * suc i = omega arith in
+    ap (λ l. number_at s (at + 5 * i) ∷ l) (rw e (numbers-items k s at (suc i)))
 
 -- ---- lists of lines of k fields, whose items have k numbers each
 

@@ -1,7 +1,7 @@
 -- Lines of fields, each ended by byte 10: 3, 4, 5 or 6 fields make 16, 21, 26 or 31 bytes (document 01, "Table layout",
 -- "Derivation lines and their check", "Panel and program").
 -- Assumes nothing.
-use Rattle.std.specs.Prelude.{Bool, ◌&&◌, List, [], ◌∷◌, ◌++◌, ℕ, zero, suc, ◌+◌, ◌*◌, ◌<◌, get_or, length, drop, eqb}
+use Rattle.std.specs.Prelude.{Bool, cond, ◌&&◌, List, [], ◌∷◌, ◌++◌, ℕ, zero, suc, ◌+◌, ◌*◌, ◌<◌, get_or, length, drop, eqb, Option, Some, None}
 use Rattle.columns.specs.Fields.{field, number_at, is_field}
 
 -- the fields of some numbers, one behind the other
@@ -31,6 +31,11 @@ numbers_at (suc k) s at = number_at s at ∷ numbers_at k s (at + 5)
 unfoldable pub laid_out : ℕ → List ℕ → ℕ → Bool
 laid_out zero s at = eqb (get_or s at 0) 10
 laid_out (suc k) s at = is_field s at && laid_out k s (at + 5)
+
+-- the numbers of the k fields from a place on, where they stand there and byte 10 behind them
+unfoldable pub numbers_read : ℕ → List ℕ → ℕ → Option (List ℕ)
+unfolding laid_out numbers_at
+numbers_read k s at = cond (laid_out k s at) (Some (numbers_at k s at)) None
 
 -- bytes or numbers written over the front of a list
 abbrev pub over : List ℕ → List ℕ → List ℕ

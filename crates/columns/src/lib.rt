@@ -7,6 +7,3 @@ pub const SPACE: u8 = 32;
 pub const ZERO: u8 = 48;
 
 pub const LINE_END: u8 = 10;
-
-// What stands for a number where five bytes are no field: no field has it.
-pub const NO_FIELD: u32 = 100000;

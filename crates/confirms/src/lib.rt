@@ -19,6 +19,7 @@ pub fn confirm(table: &[u8], fact: Fact, limit: u32, output: &mut [u8]) -> Confi
     ensures { Confirms table.now fact limit output.old output.new result }
 {
     let answer = search::question(table, fact, limit, output);
+    // Two patterns, one after the other: where one stands for both, the check loses that any other answer is no yes.
     let alone = Confirmed {
         answer,
         verdict: answer,

@@ -7,12 +7,16 @@ use Prim.Native.Nat.{ℕ, ◌*◌, ◌<◌}
 use native.Mathlib.Nat.{zero-add, add_assoc}
 use Rattle.std.specs.Prelude.{Some, None}
 use lib.ListN.{length, get_or}
-use Rattle.columns.specs.Lines.{laid_out, numbers_at, Below, items_from}
+use Rattle.columns.specs.Lines.{laid_out, numbers_at, numbers_read, Below, items_from}
+use Rattle.columns.proofs.Torn as lines
+use Rattle.columns.proofs.Torn.{unread-torn}
 use Rattle.columns.proofs.Lines.{line-length}
 use Rattle.columns.proofs.Lists.{flat-length, lines-written, line-placed}
 use Rattle.columns.proofs.Columns.{cond_none}
 use Rattle.std.proofs.lemmas.Option.{cond_some}
 use Rattle.facts.proofs.Facts.{fact-eq}
+use Rattle.facts.specs.Facts.{fact}
+use Rattle.rules.specs.Derivations.{derivation_line}
 use Rattle.rules.specs.declared.Line.{Line}
 use Rattle.derivation.specs.Bytes.{line_numbers, line_bytes, derivation_bytes, line_at}
 use Rattle.derivation.specs.Read.{read_at}
@@ -50,6 +54,15 @@ read-laid b i e = rw e
 pub read-torn : (b : List ℕ) (i : ℕ) → laid_out 6 b (31 * i) ≡ false → read_at b i ≡ None
 unfolding read_at
 read-torn b i e = rw e
+
+-- by the six numbers of its fields
+pub numbers-none : (b : List ℕ) (i : ℕ) → None ≡ numbers_read 6 b (31 * i) → read_at b i ≡ None
+numbers-none b i e = read-torn b i (unread-torn 6 b (31 * i) e)
+
+pub numbers-some : (b : List ℕ) (i : ℕ) (ns : List ℕ) → Some ns ≡ numbers_read 6 b (31 * i)
+    → read_at b i ≡ Some (derivation_line (get_or ns 0 0) (get_or ns 1 0) (get_or ns 2 0) (fact (get_or ns 3 0) (get_or ns 4 0) (get_or ns 5 0)))
+unfolding numbers_at line_at
+numbers-some b i ns e = let r = lines.read-laid 6 b (31 * i) ns e in read-laid b i r.0 ∙ rw (← r.1) (simp add_assoc)
 
 pub some-read : (b : List ℕ) (i : ℕ) (l : Line) → read_at b i ≡ Some l → (laid_out 6 b (31 * i) ≡ true) × (line_at b i ≡ l)
 unfolding read_at

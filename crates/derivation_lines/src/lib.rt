@@ -6,9 +6,8 @@ ghost use Rattle.columns.specs.Lines.{Below, over};
 ghost use Rattle.derivation.specs.Bytes.{line_numbers, line_bytes, line_at};
 ghost use Rattle.derivation.specs.Read.{read_at};
 
-use columns::LINE_END;
 use facts::Fact;
-use field_reader::field_at;
+use line_layout::numbers_at;
 use rules::Line;
 
 // The bytes of a line.
@@ -41,23 +40,16 @@ pub fn read_line(bytes: &[u8], i: usize) -> Option<Line>
     requires { 31 * i + 31 ≤ length bytes.now }
     ensures { result ≡ read_at bytes.now i }
 {
-    let at = LINE_BYTES * i;
-    let rule = field_at(bytes, at)?;
-    let first = field_at(bytes, at + 5)?;
-    let second = field_at(bytes, at + 10)?;
-    let subject = field_at(bytes, at + 15)?;
-    let predicate = field_at(bytes, at + 20)?;
-    let object = field_at(bytes, at + 25)?;
+    let [rule, first, second, subject, predicate, object] = numbers_at::<6>(bytes, LINE_BYTES * i)?;
     let fact = Fact {
         subject,
         predicate,
         object,
     };
-    let line = Line {
+    Some(Line {
         rule,
         first,
         second,
         fact,
-    };
-    (bytes[at + 30] == LINE_END).then_some(line)
+    })
 }

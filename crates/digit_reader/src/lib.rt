@@ -38,7 +38,7 @@ fn join(n: u32, b: u8) -> u32
     n * 10 + u32::from(b % 16)
 }
 
-// What the five bytes from a place on say as digits.
+// What the five bytes from a place on say as digits. A place, and no slice of five bytes: callers go on by places of one input.
 pub fn number_at(s: &[u8], at: usize) -> u32
     requires { at + 5 ≤ length s.now }
     ensures { result ≡ number_at s.now at }

@@ -1,8 +1,11 @@
 // Facts gathered in a row of keys, in ascending order, each once (document 02, Point 3).
 #![tactic(auto)]
 
-ghost use Rattle.std.specs.Prelude.{◌≡◌, ◌*◌, ◌≤◌, ◌<◌, length, replicate};
-ghost use Rattle.gathering.specs.Keys.{key_of, fact_of_key, Narrow, Rises, Cut, AddsTo, SpreadsTo};
+ghost use Rattle.std.specs.Prelude.{◌≡◌, ◌*◌, ◌≤◌, ◌<◌, length};
+ghost use mathlib.Core.List.{map};
+ghost use Rattle.columns.specs.Lines.{over};
+ghost use Rattle.table.specs.Tables.{row_of};
+ghost use Rattle.gathering.specs.Keys.{key_of, fact_of_key, Narrow, Rises, Found, AddsTo};
 
 use facts::Fact;
 use insertion::insert;
@@ -13,7 +16,7 @@ const PREDICATE: u64 = 65536;
 
 const SUBJECT: u64 = 4294967296;
 
-// The key of a fact, and the fact of a key. No From: neither type is of this crate, and not every fact has a key.
+// The key of a fact, and the fact of a key. No `From`: neither type is of this crate, and not every fact has a key.
 #[tactic(auto, unfolding(gathering::specs::Keys::key_of))]
 fn key_of(f: Fact) -> u64
     requires { Narrow f }
@@ -33,63 +36,52 @@ fn fact_of_key(key: u64) -> Fact
     }
 }
 
-// The keys of facts, rising, in the front of a row: memory is of fixed size, so no Vec.
+// The keys of facts, rising, in the front of a lent row: memory is of fixed size, so no Vec.
 #[derive(Drop)]
-pub struct Keys<const N: usize> {
-    pub row: [u64; N],
+pub struct Keys<'a> {
+    pub row: &'a mut [u64],
     pub len: usize,
-    ghost room: { length row ≡ N },
-    ghost rising: { Rises row len },
+    pub ghost rising: { Rises row.now len },
 }
 
-impl<const N: usize> Keys<N> {
+impl<'a> Keys<'a> {
     // No key.
-    pub fn new() -> Self
-        ensures { (result.row ≡ replicate N 0) × (result.len ≡ 0) }
+    pub fn new(row: &'a mut [u64]) -> Keys<'a>
+        ensures same_reference { result.row.ghost_name ≡ row.entry.ghost_name }
+        ensures empty { (result.row.now ≡ row.old) × (result.len ≡ 0) }
     {
-        Keys {
-            row: [0; N],
-            len: 0,
-        }
+        Keys { row, len: 0 }
     }
 
-    // No key is left.
-    pub fn clear(&mut self)
-        ensures { (self.new.row ≡ self.old.row) × (self.new.len ≡ 0) }
+    // Where the key stands, or else where it belongs.
+    fn find(&self, key: u64) -> Result<usize, usize>
+        ensures { Found self.now.row.now self.now.len key result }
     {
-        self.len = 0;
-    }
-
-    // The first key that is not below this one.
-    fn cut(&self, key: u64) -> usize
-        ensures { Cut self.now.row self.now.len key result }
-    {
-        self.row[..self.len].partition_point(|&k| k < key)
+        self.row[..self.len].binary_search(&key)
     }
 
     // Puts the key of a fact among the others, unless it is there.
     pub fn add(&mut self, f: Fact)
-        requires { (self.old.len < N) × Narrow f }
-        ensures { AddsTo f self.old.row self.new.row self.old.len self.new.len }
+        requires { (self.old.len < length self.old.row.now) × Narrow f }
+        ensures same_reference { self.new.row.ghost_name ≡ self.old.row.ghost_name }
+        ensures same_length { length self.new.row.now ≡ length self.old.row.now }
+        ensures adds { AddsTo f self.old.row.now self.new.row.now self.old.len self.new.len }
     {
         let key = key_of(f);
-        let k = self.cut(key);
-        if k < self.len {
-            if self.row[k] == key {
-                return;
-            }
+        if let Err(k) = self.find(key) {
+            insert(self.row, self.len, k, key);
+            self.len += 1;
         }
-        insert(&mut self.row, self.len, k, key);
-        self.len += 1;
     }
+}
 
-    // Puts the numbers of the keys' facts into the front of a row.
-    pub fn spread(&self, row: &mut [u32])
-        requires { 3 * self.now.len ≤ length row.old }
-        ensures { SpreadsTo self.now.row self.now.len row.old row.new }
-    {
-        for i in 0..self.len {
-            put_fact(fact_of_key(self.row[i]), row, i);
-        }
+// Puts the numbers of the facts of keys into the front of a row. `reader::spread` does it with facts: over an iterator of facts one contract would
+// need its items as a list, and say this again.
+pub fn spread(keys: &[u64], row: &mut [u32])
+    requires { 3 * length keys.now ≤ length row.old }
+    ensures { row.new ≡ over (row_of (map fact_of_key keys.now)) row.old }
+{
+    for (i, &key) in keys.iter().enumerate() {
+        put_fact(fact_of_key(key), row, i);
     }
 }

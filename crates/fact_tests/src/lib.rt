@@ -17,7 +17,8 @@ pub fn has_no_term(f: Fact) -> bool
         | is_no_term(kind_of(f.object))
 }
 
-// What earns refusal 4: a number of the fact is a blank node.
+// What earns refusal 4: a number of the fact is a blank node. One function for this and the test above would take the test of a kind, and say no
+// more.
 #[tactic(auto, unfolding(facts::specs::Facts::has_blank))]
 pub fn has_blank(f: Fact) -> bool
     ensures { result ≡ has_blank f }

@@ -30,7 +30,7 @@ fn column_byte(n: u64, left: u64) -> u8
     }
 }
 
-// Writes a number into the five bytes from a place on.
+// Writes a number into the five bytes from a place on. No `Display`: the library's divides by powers of ten, and has tables in the mask's memory.
 fn put_field(out: &mut [u8], at: usize, n: u32)
     requires { (at + 5 ≤ length out.old) × (n < 100000) }
     ensures { out.new ≡ sets out.old at (field n) }
@@ -55,7 +55,8 @@ fn put_field(out: &mut [u8], at: usize, n: u32)
     out[at + 4] = ZERO + (number - 10 * tens) as u8;
 }
 
-// Writes a line with the numbers into the front of the output.
+// Writes a line with the numbers into the front of the output. That each has five digits at most is asked, and no type: of such a type each number
+// would be made for the call alone.
 #[tactic(auto, unfolding(columns::specs::Lines::fields))]
 pub fn put_line(numbers: &[u32], out: &mut [u8])
     requires { (width (length numbers.now) ≤ length out.old) × Below numbers.now }

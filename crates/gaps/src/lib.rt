@@ -20,7 +20,7 @@ fn is_blank_refused(t: Fact) -> bool
     is_gap(t.predicate) | (is_gap(t.subject) & is_gap(t.object))
 }
 
-// What stands in u where t has its gap, and 0 where t has none: no Option, since C gets a yes with 0 there.
+// What stands in u where t has its gap, and 0 where t has none: what a yes carries (`facts::Outcome`).
 #[tactic(auto, unfolding(facts::specs::Gaps::filling_of))]
 pub fn filling_of(t: Fact, u: Fact) -> u32
     ensures { result ≡ filling_of t u }

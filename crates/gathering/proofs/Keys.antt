@@ -1,18 +1,15 @@
 -- Keys: in order as their facts are, one for each fact; and what a row of them holds after one more.
 -- Assumes nothing.
 use mathlib.Core.Path.{◌≡◌, refl, sym, ap, ◌∙◌}
-use mathlib.Core.Bool.{true, false}
+use mathlib.Core.Bool.{false}
 use mathlib.Core.Logic.{◌⊎◌, inl, inr, ⊎_elim, ◌↔◌}
 use mathlib.Core.List.{List, [], ◌∷◌, ◌++◌, map, Memᴰ}
 use Prim.Native.Nat.{ℕ, zero, suc, ◌+◌, ◌≤◌, ◌<◌}
 use native.Mathlib.Omega.{arith}
-use native.Mathlib.Nat.{zero-add}
 use native.Mathlib.Numerals.{add-one}
 use lib.ListN.{length, get_or, take, drop, length-map, get_or-map}
 use lib.Seq.{length-take-le, get_or-take, take-take}
-use lib.Dec.{T, ltb}
-use Rattle.columns.specs.Lines.{items_from}
-use Rattle.columns.proofs.Lists.{items-listed}
+use lib.Dec.{T, ltb, eqb}
 use Rattle.facts.specs.declared.Fact.{Fact}
 use Rattle.facts.specs.Facts.{fact, before}
 use Rattle.facts.proofs.Terms.{of_T}
@@ -22,12 +19,21 @@ use Rattle.ordered.specs.Inserted.{inserted}
 use Rattle.ordered.proofs.Inserted.{inserted-length, front}
 use Rattle.ordered.proofs.Inserted as ordered
 use Rattle.ordered.proofs.Rising.{lighter}
-use Rattle.std.specs.List.Sorted.{IsPartitionedBy, IsPartitionPoint}
+use Rattle.std.specs.List.Sorted.{IsPartitionPoint, IsNonDecreasingBy, IsSearchInRange, IsBinarySearchResult}
+use Rattle.std.specs.Prelude.{Result, Ok, Err}
+use Rattle.std.specs.Result.{IfOk}
+use Rattle.std.specs.List.{HoldsAt}
+use Rattle.std.specs.Ordering.{nat_cmp, is_lt, ordering_index}
+use Rattle.std.proofs.Common.{Less, Equal, Greater}
+use Rattle.std.proofs.lemmas.Cmp.{nat_cmp_total}
+use Rattle.std.specs.Cmp.{ranked}
+use Rattle.std.proofs.lemmas.List.Sorted.{searchable_from_sorted}
+use Rattle.facts.proofs.Terms.{by_cases}
 use Rattle.std.proofs.lemmas.List.{get_or_default}
 use native.Mathlib.Decide.{dec_lt}
-use borrow.Author.Tests.{ltb-true, ltb-false, lt-ltb}
+use borrow.Author.Tests.{le-ltb}
 use Rattle.gathering.specs.Gathered.{with}
-use Rattle.gathering.specs.Keys.{key_of, fact_of_key, Narrow, Holds, Rises, Cut, Adds}
+use Rattle.gathering.specs.Keys.{key_of, fact_of_key, Narrow, Holds, Rises, Cut, Found, Adds}
 use Rattle.gathering.proofs.Gathered.{with-only, with-ascends, with-held, before-not}
 
 -- ---- keys
@@ -60,6 +66,12 @@ key-injective a b m n e = sym (key-fact a m) ∙ ap fact_of_key e ∙ key-fact b
 
 -- ---- a row of numbers that rise
 
+-- of two numbers, the larger is not below the other
+not-less : (x y : ℕ) → x < y → is_lt (nat_cmp y x) ≡ false
+not-less x y h =
+    let t : ltb y x ≡ false = le-ltb y x (omega arith) in
+    by_cases (eqb y x) (λ q. rw (t, q)) (λ q. rw (t, q))
+
 module _ (row : List ℕ) (n : ℕ) (rises : Rises row n) where
   at-place : (i d : ℕ) → i < n → get_or (take n row) i d ≡ get_or row i 0
   at-place i d h = get_or-take n row i d h ∙ get_or_default row i d 0 (omega (arith, rises.room))
@@ -74,19 +86,32 @@ module _ (row : List ℕ) (n : ℕ) (rises : Rises row n) where
   long : length (take n row) ≡ n
   long = length-take-le n row rises.room
 
-  -- those below a key come first
-  pub parted : (key : ℕ) → IsPartitionedBy (λ y. ltb y key) (take n row)
-  parted key i j d h g e =
-      let l : j < n = omega (arith, long) in
-      rw (at-place i d (omega arith)) (lt-ltb _ _ (omega (arith, in-order i j h l, ltb-true _ _ (rw (at-place j d l) at e))))
+  -- against a key, what comes later answers no less
+  searchable : (key : ℕ) → IsNonDecreasingBy (λ y. ordering_index (nat_cmp y key)) (take n row)
+  searchable key =
+      searchable_from_sorted nat_cmp_total (λ y. y) (take n row) key
+      (λ k d _ h.
+      let l : k + 1 < n = omega (arith, long) in
+      let e : k + 1 ≡ suc k = omega arith in
+      let rise : get_or row k 0 < get_or row (k + 1) 0 = rw e (rises.rising k (omega arith)) in
+      rw (at-place k d (omega arith), at-place (k + 1) d l) (not-less _ _ rise))
 
-  pub cut-at : (key r : ℕ) → r ≤ length (take n row) → IsPartitionPoint (λ y. ltb y key ≡ true) (λ y. ltb y key ≡ false) (take n row) r → Cut row n key r
-  cut-at key r h p =
-      record {
-        within = omega (arith, long);
-        below = λ i l. ltb-true _ _ (rw (at-place i 0 (omega (arith, long))) at (p.0 i 0 (omega arith) l));
-        above = λ i l g. ltb-false _ _ (rw (at-place i 0 g) at (p.1 i 0 l (omega (arith, long))));
-      }
+  -- what a search of the keys finds
+  held-key : (key r : ℕ) → r < length (take n row) → HoldsAt (λ y. nat_cmp y key ≡ Equal) (take n row) r → (r < n) × (get_or row r 0 ≡ key)
+  held-key key r h p = let l : r < n = omega (arith, long) in (l, ranked _ _ Equal (sym (rw (at-place r 0 l) at (p 0))))
+
+  missing-key : (key r : ℕ) → r ≤ length (take n row) → IsPartitionPoint (λ y. nat_cmp y key ≡ Less) (λ y. nat_cmp y key ≡ Greater) (take n row) r
+      → Cut row n key r × (r < n → get_or row r 0 ≡ key → ⊥)
+  missing-key key r h p =
+      let above : (i : ℕ) → r ≤ i → i < n → key < get_or row i 0 = λ i l g. ranked _ _ Greater (sym (rw (at-place i 0 g) at (p.1 i 0 l (omega (arith, long))))) in (
+        record { within = omega (arith, long); below = λ i l. ranked _ _ Less (sym (rw (at-place i 0 (omega (arith, long))) at (p.0 i 0 (omega (arith, long)) l))); above = λ i l g. omega (arith, above i l g) },
+        λ l e. omega (arith, above r (omega arith) l),
+      )
+
+  pub key-found : (key : ℕ) (r : Result ℕ ℕ) → IsSearchInRange r (length (take n row)) → IfOk r (HoldsAt (λ y. nat_cmp y key ≡ Equal) (take n row))
+      → IsBinarySearchResult (λ y. nat_cmp y key) (take n row) r → Found row n key r
+  key-found key (Ok k) b h s = held-key key k b h
+  key-found key (Err k) b h s = missing-key key k b (s (searchable key))
 
   -- one more, in its place
   pub still-rises : (key r : ℕ) → n < length row → Cut row n key r → (r < n → get_or row r 0 ≡ key → ⊥) → Rises (inserted row n r key) (n + 1)
@@ -141,12 +166,12 @@ module _ (keys : List ℕ) (n : ℕ) (gs : List Fact) (held : Holds keys n gs) w
           ((before-keys (at gs i) (at gs (suc i)) (narrow_at i (omega arith)) (narrow_at (suc i) h)).0 (ascends-at gs i (fact 0 0 0) held.ascends (omega (arith, held.count))))
 
   -- read back, the keys are the facts
-  pub facts-back : items_from (λ i. fact_of_key (get_or keys i 0)) 0 n ≡ gs
-  facts-back =
-      rw held.count
-      (items-listed (λ i. fact_of_key (get_or keys i 0)) gs 0 (fact 0 0 0) (λ j h.
-      let l : j < n = omega (arith, held.count) in
-      rw (zero-add j, key-at j l) (key-fact (at gs j) (narrow_at j l))))
+  pub facts-back : map fact_of_key (take n keys) ≡ gs
+  facts-back = ap (map fact_of_key) held.keys_of ∙ back gs held.narrow
+    where
+      back : (fs : List Fact) → ((f : Fact) → Memᴰ f fs → Narrow f) → map fact_of_key (map key_of fs) ≡ fs
+      back [] m = refl
+      back (f ∷ fs) m = let e : fact_of_key (key_of f) ≡ f = key-fact f (m f (Memᴰ.head refl)) in rw (e, back fs (λ g l. m g (Memᴰ.tail l)))
 
   -- ---- one more
 

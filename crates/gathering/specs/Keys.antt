@@ -1,11 +1,10 @@
 -- A fact as one number, its key: keys are in order as their facts are. And a row that has the keys of facts in its front.
 -- Assumes nothing.
-use Rattle.std.specs.Prelude.{◌≡◌, ℕ, suc, ◌+◌, ◌*◌, ◌/◌, ◌%◌, ◌≤◌, ◌<◌, length, get_or, take, T}
+use Rattle.std.specs.Prelude.{◌≡◌, ℕ, suc, ◌+◌, ◌*◌, ◌/◌, ◌%◌, ◌≤◌, ◌<◌, length, get_or, take, T, Result, Ok, Err}
 use mathlib.Core.List.{List, map, Memᴰ}
-use Rattle.columns.specs.Lines.{over}
 use Rattle.facts.specs.declared.Fact.{Fact}
 use Rattle.facts.specs.Facts.{fact}
-use Rattle.table.specs.Tables.{ascending, row_of}
+use Rattle.table.specs.Tables.{ascending}
 use Rattle.gathering.specs.Gathered.{with}
 
 unfoldable pub key_of : Fact → ℕ
@@ -42,6 +41,11 @@ pub record Cut (keys : List ℕ) (n key r : ℕ) : Type 0 where
   pub below : (i : ℕ) → i < r → get_or keys i 0 < key
   pub above : (i : ℕ) → r ≤ i → i < n → key ≤ get_or keys i 0
 
+-- the place at which the key stands, or else the one at which it belongs
+abbrev pub Found : List ℕ → ℕ → ℕ → Result ℕ ℕ → Type 0
+Found keys n key (Ok k) = (k < n) × (get_or keys k 0 ≡ key)
+Found keys n key (Err k) = Cut keys n key k × (k < n → get_or keys k 0 ≡ key → ⊥)
+
 -- ---- one more fact
 
 -- f's key is put among them, unless it is there, and r of them are held then
@@ -52,9 +56,3 @@ pub record Adds (f : Fact) (before after : List ℕ) (r : ℕ) (gs : List Fact) 
 -- so for whatever facts they were
 abbrev pub AddsTo : Fact → List ℕ → List ℕ → ℕ → ℕ → Type 0
 AddsTo f before after n r = (gs : List Fact) → Holds before n gs → Adds f before after r gs
-
--- ---- their numbers
-
--- the facts' numbers, written into the front of another row
-abbrev pub SpreadsTo : List ℕ → ℕ → List ℕ → List ℕ → Type 0
-SpreadsTo keys n before after = (gs : List Fact) → Holds keys n gs → after ≡ over (row_of gs) before

@@ -8,6 +8,7 @@ ghost use Rattle.std.specs.Prelude.{◌≡◌, ◌+◌, ◌≤◌, [], ◌∷◌
 ghost use Rattle.case_runner.specs.Cases.{Ran};
 
 use case_runner::Cases;
+use facts::Outcome;
 use std::io;
 use std::io::Stdout;
 use table::ROW_NUMBERS;
@@ -27,8 +28,7 @@ const BYTES: usize = 17000;
 
 // Reading accepts the table, with so many facts.
 fn is_accepted(table: &[u8], count: u32) -> bool {
-    let code = codes::code_of(reader::read(table, &mut [0u32; ROW_NUMBERS]));
-    code.number == 0 && code.count == count
+    reader::read(table, &mut [0u32; ROW_NUMBERS]) == Ok(Outcome::Done(count))
 }
 
 // Imports a text, reads the table that was written, and prints it.

@@ -1,12 +1,12 @@
 // The facts of an input, gathered (document 02, Point 3).
 #![tactic(auto)]
 
-ghost use Rattle.std.specs.Prelude.{◌≡◌, ◌+◌, ◌≤◌, length};
+ghost use Rattle.std.specs.Prelude.{◌≡◌, ◌+◌, ◌≤◌, ◌<◌, length};
 ghost use mathlib.Core.List.{[], ◌∷◌};
 ghost use Rattle.ntriples.specs.Tokens.{part};
-ghost use Rattle.numbering.specs.Index.{Here};
+ghost use Rattle.numbering.specs.Index.{entries};
 ghost use Rattle.imports.specs.Lines.{lines_of, said, statements};
-ghost use Rattle.imports.specs.Collecting.{GivesTerm, Open, Stands, TripleStands, statement_at, Grows, Collected};
+ghost use Rattle.imports.specs.Collecting.{GivesTerm, Stands, TripleStands, statement_at, begun, Collected};
 
 use fact_keys::Keys;
 use facts::Fact;
@@ -18,13 +18,16 @@ use token_index::Index;
 use vocabulary::vocabulary_of;
 
 // A token's number: the vocabulary's own, or that by its first appearance, and then the index has its entry.
-fn term(index: &mut Index<ENTRIES>, input: &[u8], token: Span) -> u32
-    requires { Here input.now token.from token.to index.old.items index.old.counts }
-    ensures { GivesTerm input.now token.from token.to index.old.items index.new.items index.old.counts index.new.counts result }
+fn term(index: &mut Index, token: Span) -> u32
+    requires { (token.from < token.to) × (token.to ≤ length index.old.input.now) × (entries index.old.counts < length index.old.items.now) }
+    ensures same_reference { (index.new.input ≡ index.old.input) × (index.new.items.ghost_name ≡ index.old.items.ghost_name) }
+    ensures same_length { length index.new.items.now ≡ length index.old.items.now }
+    ensures gives { GivesTerm index.old.input.now token.from token.to index.old.items.now index.new.items.now index.old.counts index.new.counts result }
 {
+    let input = index.input;
     match vocabulary_of(&input[token.from..token.to]) {
         Some(number) => number,
-        None => index.number(input, token),
+        None => index.number(token),
     }
 }
 
@@ -39,53 +42,79 @@ fn in_input(at: usize, span: Span) -> Span
     }
 }
 
-// One statement more, whose tokens stand at their spans behind a place: its tokens in the index, and its fact's key among the keys.
-fn add_statement(
-    index: &mut Index<ENTRIES>,
-    keys: &mut Keys<CROWD>,
-    input: &[u8],
-    at: usize,
-    t: Triple,
-)
-    requires { Open input.now index.old.items index.old.counts keys.old.row keys.old.len × TripleStands input.now at t }
-    ensures { Grows input.now (statement_at input.now at t ∷ []) index.old.items index.new.items index.old.counts index.new.counts keys.old.row keys.new.row keys.old.len keys.new.len }
-{
-    let subject = term(index, input, in_input(at, t.subject));
-    let predicate = term(index, input, in_input(at, t.predicate));
-    let object = term(index, input, in_input(at, t.object));
-    keys.add(Fact {
-        subject,
-        predicate,
-        object,
-    });
+// What is gathered of an input: the index of its tokens, with three entries for each of 1,025 facts, and the keys of these facts. Each reference has
+// a lifetime of its own: with one for both the borrow checker rejects `collect`.
+#[derive(Drop)]
+struct Gathered<'i, 't, 'k, 'r> {
+    index: &'i mut Index<'t>,
+    keys: &'k mut Keys<'r>,
+    ghost room: { length index.now.items.now ≡ 3075 },
+    ghost places: { length keys.now.row.now ≡ 1025 },
 }
 
-// The statement of a line, if it makes one.
-fn add_line(index: &mut Index<ENTRIES>, keys: &mut Keys<CROWD>, input: &[u8], at: usize, end: usize)
-    requires { Open input.now index.old.items index.old.counts keys.old.row keys.old.len × (at ≤ end) × (end ≤ length input.now) }
-    ensures { Grows input.now (said (part input.now at end)) index.old.items index.new.items index.old.counts index.new.counts keys.old.row keys.new.row keys.old.len keys.new.len }
-{
-    match parse(&input[at..end]) {
-        Ok(Some(t)) => add_statement(index, keys, input, at, t),
-        Ok(None) => {}
-        Err(_) => {}
+impl Gathered<'_, '_, '_, '_> {
+    ghost use Rattle.import_collect.specs.Gathered.{SameRows, Open, Grows};
+
+    // One statement more, whose tokens stand at their spans behind a place: its tokens in the index, and its fact's key among the keys.
+    fn add_statement(&mut self, at: usize, t: Triple)
+        requires { Open self.old × TripleStands self.old.index.now.input.now at t }
+        ensures same_rows { SameRows self.old self.new }
+        ensures grows { Grows self.old (statement_at self.old.index.now.input.now at t ∷ []) self.new }
+    {
+        let subject = term(self.index, in_input(at, t.subject));
+        let predicate = term(self.index, in_input(at, t.predicate));
+        let object = term(self.index, in_input(at, t.object));
+        self.keys.add(Fact {
+            subject,
+            predicate,
+            object,
+        });
     }
-}
 
-// Gathers the keys of an input's facts, up to the 1,025th. No `for` over `lines`: the index needs the place of a line, which a line alone lacks.
-pub fn collect(input: &[u8], keys: &mut Keys<CROWD>)
-    requires { length input.now ≤ 65536 }
-    ensures { Collected (statements (lines_of input.now)) keys.new.row keys.new.len }
-{
-    keys.clear();
-    let mut index = Index::new();
-    let mut at = 0;
-    while at < input.len() {
-        let end = line_end(input, at);
-        add_line(&mut index, keys, input, at, end);
-        if keys.len == CROWD {
-            return;
+    // The statement of a line, if it makes one. Two empty arms: tried with one `if let`, what the line says was lost behind it.
+    fn add_line(&mut self, at: usize, end: usize)
+        requires { Open self.old × (at ≤ end) × (end ≤ length self.old.index.now.input.now) }
+        ensures same_rows { SameRows self.old self.new }
+        ensures grows { Grows self.old (said (part self.old.index.now.input.now at end)) self.new }
+    {
+        let input = self.index.input;
+        match parse(&input[at..end]) {
+            Ok(Some(t)) => self.add_statement(at, t),
+            Ok(None) => {}
+            Err(_) => {}
         }
-        at = end + 1;
     }
+
+    // The statements of the lines, up to the 1,025th fact. No `for` over `lines`: the index needs the place of a line, which a line alone lacks.
+    fn add_lines(&mut self)
+        requires { (self.old.index.now.counts ≡ begun) × (self.old.keys.now.len ≡ 0) }
+        ensures same_rows { SameRows self.old self.new }
+        ensures collected { Collected (statements (lines_of self.old.index.now.input.now)) self.new.keys.now.row.now self.new.keys.now.len }
+    {
+        let mut at = 0;
+        while at < self.index.input.len() {
+            let end = line_end(self.index.input, at);
+            self.add_line(at, end);
+            if self.keys.len == CROWD {
+                return;
+            }
+            at = end + 1;
+        }
+    }
+}
+
+// Puts the keys of an input's facts into the front of a row, up to the 1,025th. Their number.
+pub fn collect(input: &[u8], keys: &mut [u64]) -> usize
+    requires { (length input.now ≤ 65536) × (length keys.old ≡ 1025) }
+    ensures { Collected (statements (lines_of input.now)) keys.new result }
+{
+    let mut items = [0; ENTRIES];
+    let mut index = Index::new(input, &mut items);
+    let mut keys = Keys::new(keys);
+    let mut gathered = Gathered {
+        index: &mut index,
+        keys: &mut keys,
+    };
+    gathered.add_lines();
+    keys.len
 }

@@ -27,13 +27,12 @@ fn sample(line: &[u8], token: Span) -> u32
     ensures { result ≡ sample_of (spanned line.now token) }
 {
     let token = &line[token.from..token.to];
-    if let Some(v) = vocabulary_of(token) {
-        return v;
-    }
-    if byte_at(token, 0) == QUOTE {
-        return FIRST_LITERAL;
-    }
-    FIRST_NAME
+    let first = if byte_at(token, 0) == QUOTE {
+        FIRST_LITERAL
+    } else {
+        FIRST_NAME
+    };
+    vocabulary_of(token).unwrap_or(first)
 }
 
 // What the fact of a line's statement earns.
@@ -61,15 +60,12 @@ fn line_fault(line: &[u8]) -> Result<Verdict, Refusal>
 
 // What is held, or else a verdict on line i, counted from 0.
 #[tactic(auto, unfolding(imports::specs::Import::or_else, imports::specs::Import::found_on))]
-fn first(held: Finding, v: Verdict, i: u32) -> Finding
+fn first(held: Finding, v: Verdict, i: usize) -> Finding
     requires { i < 65536 }
     ensures { result ≡ or_else held (found_on v i Clear) }
 {
     held?;
-    v.map_err(|refusal| Refused {
-        refusal,
-        place: i + 1,
-    })
+    v.map_err(|refusal| Refused::on_line(refusal, i))
 }
 
 // The first 13 or 14 of an input of at most 65,536 bytes, or else its first 5 or 12.
@@ -79,15 +75,9 @@ pub fn judge(input: &[u8]) -> Finding
 {
     let mut held = Ok(());
     for (i, line) in lines(input).enumerate() {
-        let i = i as u32;
         match line_fault(line) {
             Ok(v) => held = first(held, v, i),
-            Err(refusal) => {
-                return Err(Refused {
-                    refusal,
-                    place: i + 1,
-                });
-            }
+            Err(refusal) => return Err(Refused::on_line(refusal, i)),
         }
     }
     held

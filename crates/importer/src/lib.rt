@@ -2,11 +2,12 @@
 #![tactic(auto)]
 
 ghost use Rattle.std.specs.Prelude.{◌≤◌, length};
-ghost use Rattle.table.specs.Tables.{table_bytes, Transfers};
+ghost use mathlib.Core.List.{map};
+ghost use Rattle.table.specs.Tables.{row_of, table_bytes, table_of_row, Transfers};
+ghost use Rattle.gathering.specs.Keys.{fact_of_key};
 ghost use Rattle.imports.specs.Import.{import_of};
-ghost use Rattle.imports.specs.Collecting.{WritesKeys};
 
-use fact_keys::Keys;
+use fact_keys::spread;
 use facts::{Answer, Refusal, Refused};
 use import_collect::collect;
 use import_judge::judge;
@@ -17,13 +18,13 @@ use table::{FIELDS, PLACES, ROW_NUMBERS};
 const INPUT_MOST: usize = 65536;
 
 // Writes the table of the facts whose keys these are.
-fn write_keys(keys: &Keys<CROWD>, table: &mut [u8]) -> Answer
-    requires { keys.now.len ≤ 1024 }
-    ensures { WritesKeys keys.now.row keys.now.len table.old table.new result }
+fn write_keys(keys: &[u64], table: &mut [u8]) -> Answer
+    requires { length keys.now ≤ 1024 }
+    ensures { Transfers table_bytes (table_of_row (row_of (map fact_of_key keys.now))) table.old table.new result }
 {
     let mut row = [0; ROW_NUMBERS];
-    keys.spread(&mut row);
-    writer::write(&row[..FIELDS * keys.len], table)
+    spread(keys, &mut row);
+    writer::write(&row[..FIELDS * keys.len()], table)
 }
 
 // Imports N-Triples as a table into lent memory.
@@ -34,10 +35,10 @@ pub fn import(input: &[u8], table: &mut [u8]) -> Answer
         return Err(Refused::from(Refusal::Statement));
     }
     judge(input)?;
-    let mut keys = Keys::new();
-    collect(input, &mut keys);
-    if PLACES < keys.len {
+    let mut keys = [0; CROWD];
+    let count = collect(input, &mut keys);
+    if PLACES < count {
         return Err(Refused::from(Refusal::Crowd));
     }
-    write_keys(&keys, table)
+    write_keys(&keys[..count], table)
 }

@@ -12,7 +12,6 @@ use Rattle.facts.specs.declared.Fact.{Fact}
 use Rattle.facts.specs.Facts.{fact}
 use Rattle.facts.proofs.Terms.{by_cases}
 use Rattle.std.specs.Prelude.{Some, None, Ok}
-use Rattle.ntriples.specs.declared.Span.{Span}
 use Rattle.ntriples.specs.declared.Triple.{Triple}
 use Rattle.ntriples.specs.Tokens.{Token, part, spanned}
 use Rattle.ntriples.specs.Lexed.{Line, line_of}
@@ -20,7 +19,7 @@ use Rattle.ntriples.proofs.Spans.{triple-spans}
 use Rattle.numbering.specs.declared.Counts.{Counts}
 use Rattle.numbering.specs.Numbering.{has, place, is_literal, Known, with_token, number_in}
 use Rattle.numbering.specs.Vocabulary.{vocabulary, word_of, term_of, with_term}
-use Rattle.numbering.specs.Index.{entries, Kept, Here, Entered}
+use Rattle.numbering.specs.Index.{entries, Kept, Entered}
 use Rattle.numbering.proofs.Numbering.{place-within, known-new}
 use Rattle.numbering.proofs.Terms as terms
 use Rattle.gathering.specs.Gathered.{with}
@@ -28,7 +27,7 @@ use Rattle.gathering.specs.Keys.{Narrow, Holds, AddsTo}
 use Rattle.gathering.proofs.Gathered.{with-length, held-or-new}
 use Rattle.imports.specs.Lines.{Statement, said_by, said}
 use Rattle.imports.specs.Import.{known_by, fact_of, facts_of}
-use Rattle.imports.specs.Collecting.{Termed, Gathers, Stands, TripleStands, token_at, statement_at}
+use Rattle.imports.specs.Collecting.{Termed, Gathers, TripleStands, token_at, statement_at}
 use Rattle.imports.proofs.Facts.{known-snoc, facts-snoc, fact-held}
 
 -- the vocabulary's tokens need no entry, and the others one each
@@ -68,9 +67,9 @@ narrow k t n l h =
     (λ p. by_cases (is_literal t) (λ q. omega (arith, (s.literal q).1)) (λ q. omega (arith, (s.name p q).1)))
 
 -- any other gets its number by first appearance
-pub termed-other : (input : List ℕ) (from to : ℕ) (before after : List ℕ) (c d : Counts) (r : ℕ) (k : Known) → Here input from to before c
+pub termed-other : (input : List ℕ) (from to : ℕ) (after : List ℕ) (c d : Counts) (r : ℕ) (k : Known) → entries c < 4096
     → None ≡ word_of (part input from to) → Entered input from to after c d r k → Termed input from to after c d r k
-termed-other input from to before after c d r k h e m =
+termed-other input from to after c d r k h e m =
     let t = part input from to in
     by_cases (has t vocabulary)
     (λ p. let z : None ≡ Some (1 + place t vocabulary) = rw p at e in absurd (cc))
@@ -79,7 +78,7 @@ termed-other input from to before after c d r k h e m =
     let w : with_term k t ≡ u = with-else k t p in
     let q : Kept input after d u = m.kept in
     let n : r ≡ term_of (with_term k t) t = m.number ∙ sym (term-else u t p) ∙ ap (λ (x : Known). term_of x t) (sym w) in
-    let few : entries d ≤ 4096 = omega (arith, m.more, h.room, h.most) in
+    let few : entries d ≤ 4096 = omega (arith, m.more) in
     let a : length u.names ≤ 4096 = omega (arith, q.names) in
     let b : length u.literals ≤ 4096 = omega (arith, q.literals) in
     record {
@@ -88,12 +87,6 @@ termed-other input from to before after c d r k h e m =
       kept = subst (Kept input after d) (sym w) q;
       more = m.more;
     })
-
--- a token that stands in the input can be entered, where few are
-pub here_of : (input items : List ℕ) (c : Counts) (k : Known) (at : ℕ) (s : Span) → length input ≤ 65536 → length items ≡ 3075 → entries c ≤ 3074 → Kept input items c k → Stands input at s
-    → Here input (at + s.from) (at + s.to) items c
-here_of input items c k at s few room less q h =
-    record { some = omega (arith, h.some); within = h.within; few = few; ordered = q.ordered; room = omega arith; most = omega arith }
 
 -- ---- one statement more
 
@@ -135,9 +128,9 @@ few-entries input items items' c d done s k l few old more =
     (λ (m : length (with f (facts_of done)) ≡ suc (length (facts_of done))). omega arith) (held-or-new f (facts_of done))
 
 pub gathers-more : (input items items' keys keys' : List ℕ) (b c : Counts) (m n : ℕ) (done : List Statement) (s : Statement) (f : Fact)
-    → Gathers input items b keys m done → m ≤ 1024 → length items' ≡ length items → Stated input items' c s f (known_by done) → entries c ≤ entries b + 3
+    → Gathers input items b keys m done → m ≤ 1024 → Stated input items' c s f (known_by done) → entries c ≤ entries b + 3
     → AddsTo f keys keys' m n → Gathers input items' c keys' n (done ++ (s ∷ []))
-gathers-more input items items' keys keys' b c m n done s f q few size t more add =
+gathers-more input items items' keys keys' b c m n done s f q few t more add =
     let e = known-snoc done s in
     let a = add (facts_of done) q.held in
     let k : Kept input items' c (known_by (done ++ (s ∷ []))) = subst (Kept input items' c) (sym e) t.kept in
@@ -146,11 +139,8 @@ gathers-more input items items' keys keys' b c m n done s f q few size t more ad
     let h : m ≡ length (facts_of done) = q.held.count in
     let l = few-entries input items items' b c done s q.index k (omega arith) (omega (arith, q.tokens)) more in
     record {
-      few = q.few;
       index = k;
-      room = size ∙ q.room;
       held = subst (Holds keys' n) w a.held;
-      places = a.size ∙ q.places;
       tokens = rw (a.held.count, x) l;
     }
 

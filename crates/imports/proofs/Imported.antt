@@ -24,10 +24,11 @@ use Rattle.table.specs.Tables.{Table, accepted, refused, all_formed, ascending, 
 use Rattle.table.proofs.Rows.{row-length, settle-refused}
 use Rattle.table.proofs.Tables.{table_of_row-accepted}
 use Rattle.ntriples.specs.Lexed.{Line, line_of}
-use Rattle.gathering.specs.Keys.{Holds}
+use Rattle.gathering.specs.Keys.{fact_of_key, Holds}
+use Rattle.gathering.proofs.Keys.{facts-back}
 use Rattle.gathering.proofs.Gathered.{gathered-only, gathered-ascends}
 use Rattle.imports.specs.Results.{Finding, Clear, Fault}
-use Rattle.imports.specs.Lines.{on_first, lines_of, Statement, said_by, said, statements}
+use Rattle.imports.specs.Lines.{lines_of, Statement, said_by, said, statements}
 use Rattle.imports.specs.Import.{known_by, fact_of, facts_of, line_refusal, fact_refusal, first_on, judged_by, judged, tabled, import_of}
 use Rattle.imports.specs.Collecting.{Collected}
 use Rattle.imports.proofs.Findings.{both-clear, all-clear, FirstFault, judged-fault}
@@ -210,11 +211,12 @@ collected-crowd ss keys n c h = go (dec_lt 1024 (length (facts_of ss)))
     go (yes p) = p
     go (no p) = absurd (omega (arith, (c.all (omega arith)).count))
 
--- the numbers of a table's facts, written from the front of a row
-pub row_written : (row row' entry exit : List ℕ) (n : ℕ) (a : Answer) (fs : List Fact) → n ≡ length fs → row' ≡ over (row_of fs) row → TableFacts fs
-    → Transfers table_bytes (table_of_row (take (3 * n) row')) entry exit a → Transfers table_bytes (accepted fs) entry exit a
-row_written row row' entry exit n a fs c e t w =
-    let m : length (row_of fs) ≡ 3 * n = row-length fs ∙ omega arith in
-    let f : take (3 * n) row' ≡ row_of fs = ap (take (3 * n)) e ∙ ap (λ (x : ℕ). take x (over (row_of fs) row)) (sym m) ∙ take-append_seam (row_of fs) (drop (length (row_of fs)) row) in
-    let g : table_of_row (take (3 * n) row') ≡ accepted fs = (table_of_row-accepted (take (3 * n) row') fs).1 (f, t) in
-    transfers-as g w
+-- the numbers of facts, from the front of a row
+pub row-front : (fs : List Fact) (row : List ℕ) (n : ℕ) → length fs ≡ n → take (3 * n) (over (row_of fs) row) ≡ row_of fs
+row-front fs row n e =
+    let m : length (row_of fs) ≡ 3 * n = row-length fs ∙ ap (λ k. 3 * k) e in
+    ap (λ (x : ℕ). take x (over (row_of fs) row)) (sym m) ∙ take-append_seam (row_of fs) (drop (length (row_of fs)) row)
+
+-- the keys of a table's facts are those of the table
+pub keys-table : (keys : List ℕ) (n : ℕ) (fs : List Fact) → Holds keys n fs → TableFacts fs → table_of_row (row_of (map fact_of_key (take n keys))) ≡ accepted fs
+keys-table keys n fs h t = rw (facts-back keys n fs h) ((table_of_row-accepted (row_of fs) fs).1 (refl, t))

@@ -1,6 +1,6 @@
 -- Laws of judging line by line: one pass finds the first 13 or 14, and else the first 5 or 12.
 -- Assumes nothing.
-use Rattle.std.specs.Prelude.{Err, None, Ok}
+use Rattle.std.specs.Prelude.{Err}
 use mathlib.Core.Path.{◌≡◌, refl}
 use mathlib.Core.List.{List, [], ◌∷◌}
 use Prim.Native.Nat.{ℕ, ◌+◌}

@@ -40,19 +40,16 @@ empty-index input items =
       all = λ t e. absurd (none-known t e);
     }
 
-pub underway-begins : (input items : List ℕ) (c : Counts) (keys : List ℕ) (n : ℕ) → length input ≤ 65536 → length items ≡ 3075 → length keys ≡ 1025 → c ≡ begun → n ≡ 0 → Underway input items c keys n 0
+pub underway-begins : (input items : List ℕ) (c : Counts) (keys : List ℕ) (n : ℕ) → c ≡ begun → n ≡ 0 → Underway input items c keys n 0
 unfolding gathered_with ascending
-underway-begins input items c keys n few room places e z =
+underway-begins input items c keys n e z =
     rw (e, z) (record {
       done = [];
       behind = refl;
       gathers =
           record {
-            few = few;
             index = empty-index input items;
-            room = room;
             held = record { count = refl; room = omega arith; keys_of = refl; narrow = λ g m. absurd (Memᴰ.not-nil m); ascends = tt };
-            places = places;
             tokens = omega arith;
           };
       more = omega arith;
@@ -76,8 +73,8 @@ module _ (input items : List ℕ) (c : Counts) (keys : List ℕ) (n : ℕ) (item
       let n : statements (lines_of (drop at input)) ≡ said (part input at end) ++ statements (lines_of (drop (end + 1) input)) = rw e (statements-next input at h) in
       u.behind ∙ ap (λ (x : List Statement). u.done ++ x) n ∙ sym (append_assoc u.done (said (part input at end)) (statements (lines_of (drop (end + 1) input))))
 
-  pub underway-more : (n' ≡ 1025 → ⊥) → Underway input items' c' keys' n' (end + 1)
-  underway-more less = record { done = u.done ++ said (part input at end); behind = then-behind; gathers = q; more = omega (arith, q.held.room, q.places, less) }
+  pub underway-more : length keys' ≡ 1025 → (n' ≡ 1025 → ⊥) → Underway input items' c' keys' n' (end + 1)
+  underway-more places less = record { done = u.done ++ said (part input at end); behind = then-behind; gathers = q; more = omega (arith, q.held.room, less) }
 
   -- 1,025 facts of some statements: there are more than 1,024 of all
   pub underway-crowded : n' ≡ 1025 → Collected (statements (lines_of input)) keys' n'

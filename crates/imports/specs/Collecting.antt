@@ -1,9 +1,6 @@
 -- The facts of an input while they are gathered: the index of tokens and the row of keys after some of its statements.
 -- Assumes nothing.
 use Rattle.std.specs.Prelude.{◌≡◌, List, ◌++◌, ℕ, ◌+◌, ◌*◌, ◌≤◌, ◌<◌, length, drop}
-use Rattle.facts.specs.declared.Fact.{Fact}
-use Rattle.facts.specs.Results.{Answer}
-use Rattle.table.specs.Tables.{TableFacts, accepted, table_bytes, Transfers}
 use Rattle.ntriples.specs.declared.Span.{Span}
 use Rattle.ntriples.specs.declared.Triple.{Triple}
 use Rattle.ntriples.specs.Tokens.{Token, part}
@@ -28,11 +25,8 @@ GivesTerm input from to before after c d r = (k : Known) → Kept input before c
 
 -- after the statements `done` the index has their tokens, and the row the keys of their n facts; a fact brings three tokens at most
 pub record Gathers (input items : List ℕ) (c : Counts) (keys : List ℕ) (n : ℕ) (done : List Statement) : Type 0 where
-  pub few : length input ≤ 65536
   pub index : Kept input items c (known_by done)
-  pub room : length items ≡ 3075
   pub held : Holds keys n (facts_of done)
-  pub places : length keys ≡ 1025
   pub tokens : entries c ≤ 3 * n
 
 -- nothing gathered yet
@@ -78,7 +72,3 @@ pub record Underway (input items : List ℕ) (c : Counts) (keys : List ℕ) (n a
 pub record Collected (ss : List Statement) (keys : List ℕ) (r : ℕ) : Type 0 where
   pub all : length (facts_of ss) ≤ 1024 → Holds keys r (facts_of ss)
   pub crowd : 1024 < length (facts_of ss) → r ≡ 1025
-
--- the facts whose keys these are, where they make up a table, are written as one
-abbrev pub WritesKeys : List ℕ → ℕ → List ℕ → List ℕ → Answer → Type 0
-WritesKeys keys n entry exit r = (fs : List Fact) → Holds keys n fs → TableFacts fs → Transfers table_bytes (accepted fs) entry exit r

@@ -1,4 +1,4 @@
-// Where the lines of an input end (document 02, Point 3: "Lines end with byte 10, which the last may lack").
+// The lines of an input, one by one, and where they end (document 02, Point 3: "Lines end with byte 10, which the last may lack").
 #![tactic(auto)]
 
 ghost use Rattle.std.specs.Prelude.{◌≡◌, ◌≤◌, length, drop};

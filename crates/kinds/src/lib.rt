@@ -15,7 +15,7 @@ pub const BLANK_FIRST: u32 = 60000;
 
 pub const TERM_LAST: u32 = 65535;
 
-// The kind of a number. No `From`: definitions and papers name it, and `facts` has types and laws alone.
+// The kind of a number. No `From`: `kind_of` is the name that the definition has, and `Kind::from` would say no more.
 #[tactic(auto, unfolding(facts::specs::Terms::kind_of))]
 pub fn kind_of(n: u32) -> Kind
     ensures { result ≡ kind_of n }

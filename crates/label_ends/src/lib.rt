@@ -13,7 +13,7 @@ fn part_end(c: Class, s: &[u8], at: usize) -> Option<usize>
     ensures { MatchOption result (run_end c s.now at ≡ at) (λ end. (end ≡ run_end c s.now at) × (at < end)) }
 {
     let end = run_end(c, s, at);
-    if end == at { None } else { Some(end) }
+    (at < end).then_some(end)
 }
 
 // Where the language tag ends whose first part begins at a place, if one does. No `for`: only the end of a part tells whether one more begins.

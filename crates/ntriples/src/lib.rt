@@ -1,4 +1,5 @@
-// A line of N-Triples, taken apart (document 02, Point 3): types, definitions and laws.
+// A line of N-Triples, taken apart (document 02, Point 3): types, definitions and laws, and which refusal a line's
+// fault is.
 #![tactic(auto)]
 
 ghost use Rattle.std.specs.Prelude.{◌≡◌};
@@ -42,7 +43,7 @@ pub enum Class {
     Line,
 }
 
-// A part of a line: from one place up to another.
+// A part of a line: from one place up to another. Copied, which a Range is not.
 #[derive(Clone, Copy)]
 pub struct Span {
     pub from: usize,

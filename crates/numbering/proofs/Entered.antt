@@ -4,7 +4,7 @@ use mathlib.Core.Path.{◌≡◌, sym, ap, ◌∙◌}
 use mathlib.Core.Logic.{⊎_elim}
 use mathlib.Core.Bool.{true, false}
 use mathlib.Core.List.{List}
-use Prim.Native.Nat.{ℕ, suc, ◌+◌, ◌-◌, ◌≤◌, ◌<◌}
+use Prim.Native.Nat.{ℕ, suc, ◌-◌, ◌≤◌, ◌<◌}
 use native.Mathlib.Omega.{arith}
 use native.Mathlib.Nat.{add-zero}
 use native.Mathlib.Decide.{dec_lt}
@@ -17,7 +17,7 @@ use Rattle.numbering.specs.declared.Counts.{Counts}
 use Rattle.numbering.specs.Weights.{weight}
 use Rattle.ordered.specs.Inserted.{inserted}
 use Rattle.numbering.specs.Numbering.{is_literal, Known, with_token, knows, number_in}
-use Rattle.numbering.specs.Index.{entry, from_of, to_of, number_of, token_of, token_at, entries, next_of, Whole, Held, Missing, Kept, Here, Entered}
+use Rattle.numbering.specs.Index.{entry, from_of, to_of, number_of, token_of, token_at, entries, next_of, Whole, Held, Missing, Kept, Ordered, Entered}
 use Rattle.ordered.proofs.Inserted.{here, each, still, rises, inserted-length}
 use Rattle.numbering.proofs.Numbering.{known_kept, known-new, known-still, known_more, new-literal, new-name}
 
@@ -68,23 +68,29 @@ first_byte input from to h =
     let e : get_or (part input from to) 0 0 ≡ get_or input from 0 = get_or-take (to - from) (drop from input) 0 0 (omega arith) ∙ get_or-drop from input 0 0 ∙ rw add-zero in
     ap (λ (b : ℕ). eqb b 34) e
 
--- the next number is the new token's
-record Next (c : Counts) (k : Known) (t : Token) (g : ℕ × Counts) : Type 0 where
+-- the next number, and how many entries there are then
+pub next-most : (c : Counts) (b : ℕ) → entries c < 4096 → (next_of c b).0 < 65536
+unfolding next_of
+next-most c b h = by_cases (eqb b 34) (λ p. rw p (omega arith)) (λ p. rw p (omega arith))
+
+next-count : (c : Counts) (b : ℕ) → entries (next_of c b).1 ≡ suc (entries c)
+unfolding next_of
+next-count c b = by_cases (eqb b 34) (λ p. rw p (omega arith)) (λ p. rw p (omega arith))
+
+-- it is the new token's
+record Next (k : Known) (t : Token) (g : ℕ × Counts) : Type 0 where
   number : g.0 ≡ number_in (with_token k t) t
   names : g.1.names ≡ length (with_token k t).names
   literals : g.1.literals ≡ length (with_token k t).literals
-  count : entries g.1 ≡ suc (entries c)
-  most : g.0 ≤ 40000 + suc (entries c)
 
-next-new : (input items : List ℕ) (c : Counts) (k : Known) (t : Token) (b : ℕ) → Kept input items c k → knows k t ≡ false → is_literal t ≡ eqb b 34 → Next c k t (next_of c b)
+next-new : (input items : List ℕ) (c : Counts) (k : Known) (t : Token) (b : ℕ) → Kept input items c k → knows k t ≡ false → is_literal t ≡ eqb b 34 → Next k t (next_of c b)
 unfolding next_of
 next-new input items c k t b q e l =
-    by_cases (eqb b 34)
-    (λ p. let n = new-literal k t (l ∙ p) e in rw p (record { number = omega arith; names = omega arith; literals = omega arith; count = omega arith; most = omega arith }))
-    (λ p. let n = new-name k t (l ∙ p) e in rw p (record { number = omega arith; names = omega arith; literals = omega arith; count = omega arith; most = omega arith }))
+    by_cases (eqb b 34) (λ p. let n = new-literal k t (l ∙ p) e in rw p (record { number = omega arith; names = omega arith; literals = omega arith }))
+    (λ p. let n = new-name k t (l ∙ p) e in rw p (record { number = omega arith; names = omega arith; literals = omega arith }))
 
-module _ (input before : List ℕ) (from to : ℕ) (c : Counts) (h : Here input from to before c) (r : ℕ)
-    (m : Missing input before (entries c) (part input from to) r) (k : Known) (q : Kept input before c k) where
+module _ (input before : List ℕ) (from to : ℕ) (c : Counts) (some : from < to) (inside : to ≤ length input) (few : length input ≤ 65536) (ordered : Ordered input before (entries c))
+    (room : entries c < length before) (most : length before ≤ 4096) (r : ℕ) (m : Missing input before (entries c) (part input from to) r) where
   t : Token
   t = part input from to
 
@@ -97,18 +103,15 @@ module _ (input before : List ℕ) (from to : ℕ) (c : Counts) (h : Here input 
   after : List ℕ
   after = inserted before (entries c) r v
 
-  new : Next c k t g
-  unfolding t g
-  new = next-new input before c k t (get_or input from 0) q (missing-unknown input before c k t r q m) (first_byte input from to h.some)
-
   small : g.0 < 65536
-  small = omega (arith, new.most, h.room, h.most)
+  unfolding g
+  small = next-most c (get_or input from 0) (omega arith)
 
   low : from ≤ 65536
-  low = omega (arith, h.some, h.within, h.few)
+  low = omega arith
 
   high : to ≤ 65536
-  high = omega (arith, h.within, h.few)
+  high = omega arith
 
   token : token_of input v ≡ t
   unfolding t v
@@ -117,63 +120,63 @@ module _ (input before : List ℕ) (from to : ℕ) (c : Counts) (h : Here input 
   fits : r ≤ entries c
   fits = m.within
 
-  room : entries c < length before
-  room = h.room
+  count : entries g.1 ≡ suc (entries c)
+  unfolding g
+  count = next-count c (get_or input from 0)
 
   whole : (i : ℕ) → i < suc (entries c) → Whole input (get_or after i 0)
   unfolding after v
-  whole = each before (entries c) r v fits room (Whole input) h.ordered.whole
-      (record {
-        forward = rw (entry-from from to g.0 low high small, entry-to from to g.0 low high small) (omega (arith, h.some));
-        within = rw (entry-to from to g.0 low high small) h.within;
-      })
+  whole = each before (entries c) r v fits room (Whole input) ordered.whole
+      (record { forward = rw (entry-from from to g.0 low high small, entry-to from to g.0 low high small) (omega arith); within = rw (entry-to from to g.0 low high small) inside })
 
   rising : (i : ℕ) → suc i < suc (entries c) → weight (token_at input after i) < weight (token_at input after (suc i))
   unfolding after t
-  rising = rises before (entries c) r v fits room (λ e. weight (token_of input e)) h.ordered.rising
+  rising = rises before (entries c) r v fits room (λ e. weight (token_of input e)) ordered.rising
       (λ i l. rw token (m.below i l)) (λ i l p. rw token (m.above i l p))
 
-  stored : number_of v ≡ g.0
-  unfolding v
-  stored = entry-number from to g.0 low high small
-
-  known : (i : ℕ) → i < suc (entries c) → knows (with_token k t) (token_at input after i) ≡ true
+  -- the entries are in order then
+  in-order : Ordered input after (entries g.1)
   unfolding after
-  known = each before (entries c) r v fits room (λ e. knows (with_token k t) (token_of input e) ≡ true)
-      (λ i l. (known-still k t (token_at input before i) (q.known i l)).0) (rw token (known-new k t))
+  in-order = rw count (record { room = omega (arith, inserted-length before (entries c) r v fits room); whole = whole; rising = rising })
 
-  number : (i : ℕ) → i < suc (entries c) → number_of (get_or after i 0) ≡ number_in (with_token k t) (token_at input after i)
-  unfolding after
-  number = each before (entries c) r v fits room (λ e. number_of e ≡ number_in (with_token k t) (token_of input e))
-      (λ i l. q.number i l ∙ sym (known-still k t (token_at input before i) (q.known i l)).1) (rw token (stored ∙ new.number))
+  pub entered-ordered : Ordered input (inserted before (entries c) r (entry from to (next_of c (get_or input from 0)).0)) (entries (next_of c (get_or input from 0)).1)
+  unfolding g v after
+  entered-ordered = in-order
 
-  all : (u : Token) → knows (with_token k t) u ≡ true → (i : ℕ) × (i < suc (entries c)) × (token_at input after i ≡ u)
-  unfolding after
-  all u e = ⊎_elim old (λ (p : u ≡ t). (r, omega (arith, fits), ap (token_of input) (here before (entries c) r v fits room) ∙ token ∙ sym p)) (known_more k t u e)
-    where
-      old : knows k u ≡ true → (i : ℕ) × (i < suc (entries c)) × (token_at input (inserted before (entries c) r v) i ≡ u)
-      old p =
-          let a = q.all u p in
-          let b = still before (entries c) r v fits room a.0 a.1 in
-          (b.0, b.1, ap (token_of input) b.2 ∙ a.2)
+  module _ (k : Known) (q : Kept input before c k) where
+    new : Next k t g
+    unfolding t g
+    new = next-new input before c k t (get_or input from 0) q (missing-unknown input before c k t r q m) (first_byte input from to some)
 
-  pub entered-new : Entered input from to (inserted before (entries c) r (entry from to (next_of c (get_or input from 0)).0)) c (next_of c (get_or input from 0)).1 (next_of c (get_or input from 0)).0 k
-  unfolding t g v after
-  entered-new =
-      record {
-        number = new.number;
-        kept =
-            record {
-              names = new.names;
-              literals = new.literals;
-              ordered = rw new.count (record { room = omega (arith, inserted-length before (entries c) r v fits room, room); whole = whole; rising = rising });
-              known = rw new.count known;
-              number = rw new.count number;
-              all = rw new.count all;
-            };
-        more = omega (arith, new.count);
-      }
+    stored : number_of v ≡ g.0
+    unfolding v
+    stored = entry-number from to g.0 low high small
 
-pub next-most : (c : Counts) (b : ℕ) → entries c < 4096 → (next_of c b).0 < 65536
-unfolding next_of
-next-most c b h = by_cases (eqb b 34) (λ p. rw p (omega arith)) (λ p. rw p (omega arith))
+    known : (i : ℕ) → i < suc (entries c) → knows (with_token k t) (token_at input after i) ≡ true
+    unfolding after
+    known = each before (entries c) r v fits room (λ e. knows (with_token k t) (token_of input e) ≡ true)
+        (λ i l. (known-still k t (token_at input before i) (q.known i l)).0) (rw token (known-new k t))
+
+    number : (i : ℕ) → i < suc (entries c) → number_of (get_or after i 0) ≡ number_in (with_token k t) (token_at input after i)
+    unfolding after
+    number = each before (entries c) r v fits room (λ e. number_of e ≡ number_in (with_token k t) (token_of input e))
+        (λ i l. q.number i l ∙ sym (known-still k t (token_at input before i) (q.known i l)).1) (rw token (stored ∙ new.number))
+
+    all : (u : Token) → knows (with_token k t) u ≡ true → (i : ℕ) × (i < suc (entries c)) × (token_at input after i ≡ u)
+    unfolding after
+    all u e = ⊎_elim old (λ (p : u ≡ t). (r, omega (arith, fits), ap (token_of input) (here before (entries c) r v fits room) ∙ token ∙ sym p)) (known_more k t u e)
+      where
+        old : knows k u ≡ true → (i : ℕ) × (i < suc (entries c)) × (token_at input (inserted before (entries c) r v) i ≡ u)
+        old p =
+            let a = q.all u p in
+            let b = still before (entries c) r v fits room a.0 a.1 in
+            (b.0, b.1, ap (token_of input) b.2 ∙ a.2)
+
+    pub entered-new : Entered input from to (inserted before (entries c) r (entry from to (next_of c (get_or input from 0)).0)) c (next_of c (get_or input from 0)).1 (next_of c (get_or input from 0)).0 k
+    unfolding t g v after
+    entered-new =
+        record {
+          number = new.number;
+          kept = record { names = new.names; literals = new.literals; ordered = in-order; known = rw count known; number = rw count number; all = rw count all };
+          more = omega (arith, count);
+        }

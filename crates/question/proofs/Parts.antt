@@ -87,14 +87,6 @@ module _ (facts : List Fact) (w : ℕ) (a : Fact) (done : List Bool) {x lo d : �
       off true z = absurd (true≢false (sym z))
       off false z = refl
 
-  pub part-is : {hi : ℕ} {on : Bool} → on ≡ goes_on w a → get_or done d false || not on ≡ false → Cut facts (x + 1) hi → lo < hi → MayFollow facts w a (record { from = lo; to = hi; slot = d })
-  part-is {hi} {on} g h high some = record { on = sym g ∙ go (get_or done d false) on h; low = rw e at low; high = rw e at high; some = some; slot = is }
-    where
-      go : (b c : Bool) → b || not c ≡ false → c ≡ true
-      go true c z = absurd (true≢false z)
-      go false true z = refl
-      go false false z = absurd (true≢false z)
-
   pub none-empty : {hi : ℕ} → Cut facts (x + 1) hi → hi ≤ lo → NoneLeft facts w a done
   none-empty {hi} high h =
       absent (rw e at low) (record { within = low.within; below = λ i l. omega (arith, low.below i l, e); above = λ i l m. omega (arith, high.above i (omega arith) m, e) })

@@ -154,11 +154,12 @@ module _ (facts : List Fact) (w : ℕ) (mark queue : List ℕ) (m : ℕ) where
     pub ending-none : (best : Maybe ℕ) (done : List Bool) (q : ℕ) → Rising facts → NoneLeft facts w (fact_in facts (get_or queue q 0)) done → Ending best done q → Ending best done (q + 1)
     ending-none best done q rows left d = ending_skip best done q d (λ e. none-passed facts w (NotBelow best) (get_or queue q 0) rows left d.noted)
 
-    pub ending-end : (top : ℕ) (best : Maybe ℕ) (done : List Bool) (q : ℕ) → Stepping facts mark queue m top → Ending best done q → top ≤ q → best ≡ optional (least (ending facts w mark t m) 0 (length facts))
-    ending-end top best done q s d l = first-is (ending facts w mark t m) (length facts) best d.is (λ j h x.
+    pub ending-end : (top : ℕ) (best : Maybe ℕ) (done : List Bool) (q : ℕ) → Queued (length facts) mark queue m top → 0 < m → Ending best done q → top ≤ q
+        → best ≡ optional (least (ending facts w mark t m) 0 (length facts))
+    ending-end top best done q s pos d l = first-is (ending facts w mark t m) (length facts) best d.is (λ j h x.
         let u = and_yes (goal_for t (fact_in facts j)) (comes_by facts w mark t m (fact_in facts j)) x in
-        let c = comes-says (fact_in facts j) s.some u.1 in
+        let c = comes-says (fact_in facts j) pos u.1 in
         let v = and_yes (eqb (get_or mark c.0 0) m) (next w (fact_in facts c.0) (fact_in facts j)) c.2 in
         let e = eqb_yes {a = get_or mark c.0 0} {b = m} v.0 in
-        let p = s.queued.listed c.0 (omega (arith, e, s.some)) (omega (arith, e)) in
+        let p = s.listed c.0 (omega (arith, e, pos)) (omega (arith, e)) in
         d.passed p.0 (omega (arith, p.1)) (ap (λ (y : ℕ). get_or mark y 0) p.2 ∙ e) j h (subst (λ (y : ℕ). T (next w (fact_in facts y) (fact_in facts j))) (sym p.2) v.1) u.0)

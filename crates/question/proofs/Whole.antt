@@ -2,9 +2,9 @@
 -- Assumes nothing.
 use mathlib.Core.Path.{◌≡◌, refl, sym, subst}
 use mathlib.Core.Logic.{◌⊎◌, inl, inr, ⊎_elim}
-use mathlib.Core.Bool.{true, false, true≢false}
+use mathlib.Core.Bool.{Bool, true, false, true≢false}
 use mathlib.Core.Option.{none, some}
-use Rattle.std.specs.Prelude.{Option as Maybe, None, Some}
+use Rattle.std.specs.Prelude.{Option as Maybe, None, Some, MatchOption}
 use Rattle.std.specs.List.{list_any}
 use Rattle.std.proofs.lemmas.Option.{none-some, same_Some}
 use Rattle.std.proofs.lemmas.Bool.{ltb-true, ltb-false}
@@ -14,7 +14,7 @@ use Prim.Native.Nat.{ℕ, zero, suc, ◌≤◌, ◌<◌}
 use native.Mathlib.Nat.{le_of_lt}
 use native.Mathlib.Omega.{arith}
 use lib.ListN.{length}
-use lib.Dec.{T}
+use lib.Dec.{T, ltb}
 use borrow.Author.Tests.{eq-eqb, ne_eqb}
 use Rattle.facts.specs.declared.Fact.{Fact}
 use Rattle.facts.specs.Terms.{dom, range}
@@ -51,13 +51,19 @@ before-subject a b h = go ((before-iff a b).0 h)
     go (by-object e g l) = omega arith
 
 -- where facts strictly ascend no subject falls
-pub sorted-rising : {facts : List Fact} → Sorted facts → Rising facts
-sorted-rising {facts} d = record { few = d.few; rises = λ i j l h. go i j l h }
+pub sorted_rising : {facts : List Fact} → Sorted facts → Rising facts
+sorted_rising {facts} d = record { few = d.few; rises = λ i j l h. go i j l h }
   where
     go : (i j : ℕ) → i ≤ j → j < length facts → subject_at facts i ≤ subject_at facts j
     go i zero l h = let e : i ≡ 0 = omega arith in subst (λ (y : ℕ). subject_at facts y ≤ subject_at facts 0) (sym e) (omega arith)
     go i (suc j) l h = equal-or i (suc j) (λ e. subst (λ (y : ℕ). subject_at facts y ≤ subject_at facts (suc j)) (sym e) (omega arith))
         (λ e. omega (arith, go i j (omega (arith, e)) (omega arith), before-subject (fact_in facts j) (fact_in facts (suc j)) (d.ascends j h)))
+
+-- the test of two counts, as code gives it
+pub shorter-is : (f k : Maybe ℕ) (b : Bool) → MatchOption f (b ≡ false) (λ x. MatchOption k (b ≡ true) (λ y. b ≡ ltb x y)) → shorter f k ≡ b
+shorter-is None k b is = sym is
+shorter-is (Some x) None b is = sym is
+shorter-is (Some x) (Some y) b is = sym is
 
 module _ (facts : List Fact) (t : Fact) where
   -- a search meets a goal after at most (length facts) facts
@@ -177,4 +183,4 @@ module _ (facts : List Fact) (t : Fact) where
   pub traceable : (w k : ℕ) (f : Maybe ℕ) (s : State) (size : ℕ) → Given facts w t f s size → f ≡ Some k → Traceable facts w t k s size
   traceable w k f s size d e =
       let m = met-of w f s k d.left e in
-      record { rising = d.rising; some = path-pos m.path; met = m; room = omega (arith, met-few m, d.room) }
+      record { some = path-pos m.path; met = m; room = omega (arith, met-few m, d.room) }

@@ -5,7 +5,6 @@ use Rattle.std.proofs.Math.Option.{Option, none, some}
 use Rattle.facts.specs.declared.Fact.{Fact}
 use Rattle.rules.specs.Chosen.{chosen, chosen_by}
 use Rattle.question.specs.declared.State.{State}
-use Rattle.question.specs.Row.{Rising}
 use Rattle.question.specs.State.{Left}
 use Rattle.columns.specs.Lines.{over}
 
@@ -26,7 +25,6 @@ pub record Finds (facts : List Fact) (t : Fact) (before after : List ℕ) (r : M
 
 -- what the answer from one search needs, that met a goal after f facts, or none, and left the state s
 pub record Given (facts : List Fact) (w : ℕ) (t : Fact) (f : Maybe ℕ) (s : State) (size : ℕ) : Type 0 where
-  pub rising : Rising facts
   pub left : Left facts w t f s
   pub room : length facts ≤ size
 

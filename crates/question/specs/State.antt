@@ -7,7 +7,7 @@ use Rattle.rules.specs.Paths.{link, property, goes_on, start_for, next, goal_for
 use Rattle.question.specs.declared.State.{State}
 use Rattle.question.specs.declared.Part.{Part}
 use Rattle.rules.specs.Chosen.{fact_in}
-use Rattle.question.specs.Row.{Rising, Cut}
+use Rattle.question.specs.Row.{Cut}
 
 -- the mark of the place i, and the place at q of the queue
 abbrev pub mark_at : State → ℕ → ℕ
@@ -83,10 +83,15 @@ pub record Starting (facts : List Fact) (w : ℕ) (t : Fact) (from to : ℕ) : T
   pub within : to ≤ length facts
   pub all : (i : ℕ) → i < length facts → T (start_for w t (fact_in facts i)) → (from ≤ i) × (i < to)
 
--- after the first round: a start is a goal, or the starts are marked and queued
+-- what the rounds begin with: the starts are marked and queued, and none of them is a goal
+pub record Begun (facts : List Fact) (w : ℕ) (t : Fact) (s : State) : Type 0 where
+  pub round : Round facts w t 1 0 s.to s
+  pub from : s.from ≡ 0
+
+-- after the first round: a start is a goal, or the rounds may begin
 abbrev pub Seeded : List Fact → ℕ → Fact → Bool → State → Type 0
 Seeded facts w t true s = Met facts w t 1 s
-Seeded facts w t false s = Round facts w t 1 0 s.to s × (s.from ≡ 0)
+Seeded facts w t false s = Begun facts w t s
 
 -- the state with nothing marked
 abbrev pub empty : State
@@ -122,14 +127,3 @@ pub data NoneLeft (facts : List Fact) (w : ℕ) (a : Fact) (done : List Bool) : 
 abbrev pub PartOf : List Fact → ℕ → Fact → List Bool → Option Part → Type 0
 PartOf facts w a done None = NoneLeft facts w a done
 PartOf facts w a done (Some p) = MayFollow facts w a p
-
--- what a search begins with: rising facts, and nothing marked
-pub record Fresh (facts : List Fact) (s : State) : Type 0 where
-  pub rising : Rising facts
-  pub blank : s ≡ empty
-
--- what the rounds begin with: the starts are marked and queued, and none of them is a goal
-pub record Begun (facts : List Fact) (w : ℕ) (t : Fact) (s : State) : Type 0 where
-  pub rising : Rising facts
-  pub round : Round facts w t 1 0 s.to s
-  pub from : s.from ≡ 0

@@ -7,7 +7,6 @@ use Rattle.rules.specs.Graph.{least}
 use Rattle.rules.specs.Paths.{named, start_for, next, goal_for}
 use Rattle.question.specs.declared.State.{State}
 use Rattle.rules.specs.Chosen.{fact_in}
-use Rattle.question.specs.Row.{Rising}
 use Rattle.question.specs.State.{Met}
 
 -- a place, if there is one, as code gives it
@@ -53,7 +52,6 @@ pub record Queued (n : ℕ) (mark queue : List ℕ) (m top : ℕ) : Type 0 where
 
 -- what a step back from the places marked m + 1 needs, and what it finds
 pub record Stepping (facts : List Fact) (mark queue : List ℕ) (m top : ℕ) : Type 0 where
-  pub rising : Rising facts
   pub queued : Queued (length facts) mark queue m top
   pub some : 0 < m
 
@@ -69,7 +67,6 @@ pub record FirstEnd (facts : List Fact) (w : ℕ) (t a : Fact) (from to : ℕ) (
 
 -- what reading back needs: a search that met a goal after f facts, and room for f places
 pub record Traceable (facts : List Fact) (w : ℕ) (t : Fact) (f : ℕ) (s : State) (size : ℕ) : Type 0 where
-  pub rising : Rising facts
   pub some : 0 < f
   pub met : Met facts w t f s
   pub room : f ≤ size

@@ -5,8 +5,8 @@
 use table::PLACES;
 
 // The state of a search, document 01's "record of fixed size": a mark for each place (the layer in which it was reached, 0
-// for none, as an Option of 16 bits takes twice the memory), the places in the order in which they were reached, and the ends of the frontier among them. Where a goal was
-// reached, `from` is the place of the frontier that led to it.
+// for none: an Option of 16 bits takes twice the memory), the places in the order in which they were reached, and the ends of the
+// frontier among them. Where a goal was reached, `from` is the place of the frontier that led to it.
 #[derive(Drop)]
 pub struct State {
     pub mark: [u16; PLACES],

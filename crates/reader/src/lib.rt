@@ -7,37 +7,24 @@ ghost use Rattle.table.specs.Tables.{row_of, over_facts, table_of, Transfers, sc
 
 use facts::{Answer, Fact, NO_FACT, Outcome, Refusal, Refused};
 use table::{FIELDS, LINE_BYTES, PLACES, Scan};
-use table_lines::{judge_line, put_fact};
+use table_lines::{count, judge_line, put_fact};
 
 // The bytes of a full table.
 const TABLE_BYTES: usize = 16384;
 
-// Scans the table's lines and puts their facts into memory, up to the first line that is refused.
+// Scans the table's lines and puts their facts into memory, up to the first line that is refused. How many facts the memory holds then is the
+// answer: a slice of it would keep the memory lent.
 pub fn load(bytes: &[u8], facts: &mut [Fact]) -> Scan
     requires { 1024 ≤ length facts.old }
     ensures answer { result ≡ scan_of (table_of bytes.now) }
     ensures facts { facts.new ≡ over_facts (loaded bytes.now) facts.old }
 {
-    let size = bytes.len();
-    if size % LINE_BYTES != 0 {
-        return Err(Refused::from(Refusal::Size));
-    }
-    if TABLE_BYTES < size {
-        return Err(Refused::from(Refusal::Size));
-    }
-    let n = size / LINE_BYTES;
-    let mut last = NO_FACT;
+    let n = count(bytes.len(), LINE_BYTES, TABLE_BYTES)?;
+    let mut last = None;
     for i in 0..n {
-        match judge_line(bytes, i, last) {
-            Ok(f) => {
-                facts[i] = f;
-                last = f;
-            }
-            Err(refusal) => {
-                let place = i as u32 + 1;
-                return Err(Refused { refusal, place });
-            }
-        }
+        let f = judge_line(bytes, i, last).map_err(|r| Refused::on_line(r, i))?;
+        facts[i] = f;
+        last = Some(f);
     }
     Ok(n as u32)
 }
@@ -77,7 +64,8 @@ pub fn load_row(bytes: &[u8], row: &mut [u32]) -> Scan
     scan
 }
 
-// Reads a table into a lent row of three numbers a fact.
+// Reads a table into a lent row of three numbers a fact. `records::read_facts` and `writer::write` end as this does; behind the test of the room
+// each fills other memory, so that one function for all would take a closure that writes, and its contract would say all of this again.
 pub fn read(bytes: &[u8], row: &mut [u32]) -> Answer
     ensures call { Transfers row_of (table_of bytes.now) row.old row.new result }
 {

@@ -21,7 +21,7 @@ fn fill(row: &[u32], facts: &mut [Fact])
     }
 }
 
-// Reads a table into a lent row of fact records, over the row of its numbers.
+// Reads a table into a lent row of fact records, over the row of its numbers: document 01's fact structs over a flat row.
 pub fn read_facts(bytes: &[u8], facts: &mut [Fact]) -> Answer
     ensures call { TransfersRecords bytes.now facts.old facts.new result }
 {

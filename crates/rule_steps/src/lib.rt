@@ -49,38 +49,49 @@ const ROWS: [Row; 6] = [
     },
 ];
 
-// The term that a cell stands for, with p and q for the premises.
-#[tactic(auto, unfolding(rules::specs::Steps::cell_of))]
-fn cell(c: Cell, p: Fact, q: Fact) -> u32
-    ensures { result ≡ cell_of c p q }
-{
-    match c {
-        Subject1 => p.subject,
-        Object1 => p.object,
-        Subject2 => q.subject,
-        Object2 => q.object,
-        word => word as u32,
-    }
+// The premises of a rule step.
+#[derive(Clone, Copy)]
+struct Premises {
+    first: Fact,
+    second: Fact,
 }
 
-// The fact whose terms stand in cells.
-#[tactic(auto, unfolding(rules::specs::Steps::fill))]
-fn filled(cells: Cells, p: Fact, q: Fact) -> Fact
-    ensures { result ≡ fill cells p q }
-{
-    Fact {
-        subject: cell(cells.0, p, q),
-        predicate: cell(cells.1, p, q),
-        object: cell(cells.2, p, q),
+impl Premises {
+    // The term that a cell stands for.
+    #[tactic(auto, unfolding(rules::specs::Steps::cell_of))]
+    fn cell(self, c: Cell) -> u32
+        ensures { result ≡ cell_of c self.first self.second }
+    {
+        match c {
+            Subject1 => self.first.subject,
+            Object1 => self.first.object,
+            Subject2 => self.second.subject,
+            Object2 => self.second.object,
+            word => word as u32,
+        }
     }
-}
 
-// The facts are as the row has them.
-#[tactic(auto, unfolding(rules::specs::Steps::fits_row, rules::specs::Steps::same))]
-fn fits(w: Row, p: Fact, q: Fact, r: Fact) -> bool
-    ensures { result ≡ fits_row w p q r }
-{
-    (p.predicate == w.first) & (q == filled(w.second, p, q)) & (r == filled(w.result, p, q))
+    // The fact whose terms stand in cells.
+    #[tactic(auto, unfolding(rules::specs::Steps::fill))]
+    fn filled(self, cells: Cells) -> Fact
+        ensures { result ≡ fill cells self.first self.second }
+    {
+        Fact {
+            subject: self.cell(cells.0),
+            predicate: self.cell(cells.1),
+            object: self.cell(cells.2),
+        }
+    }
+
+    // The premises and r are as the row has them.
+    #[tactic(auto, unfolding(rules::specs::Steps::fits_row, rules::specs::Steps::same))]
+    fn fits(self, w: Row, r: Fact) -> bool
+        ensures { result ≡ fits_row w self.first self.second r }
+    {
+        (self.first.predicate == w.first)
+            & (self.second == self.filled(w.second))
+            & (r == self.filled(w.result))
+    }
 }
 
 // Rule n as a row, if there is one.
@@ -98,5 +109,9 @@ pub fn step(rule: u32, p: Fact, q: Fact, r: Fact) -> bool
     let Some(w) = row(rule) else {
         return false;
     };
-    fits(w, p, q, r) & is_well_formed(p) & is_well_formed(q) & is_well_formed(r)
+    let premises = Premises {
+        first: p,
+        second: q,
+    };
+    premises.fits(w, r) & is_well_formed(p) & is_well_formed(q) & is_well_formed(r)
 }

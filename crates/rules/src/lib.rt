@@ -4,7 +4,7 @@
 use facts::Fact;
 
 // A derivation line: the rule's number (0 for a table line), the line numbers of its premises, counted from 1, and its fact. No enum of
-// table lines and rule lines, since any six numbers are a line that is well laid out.
+// table lines and rule lines: any six numbers are a line that is well laid out, so each case would have them all.
 #[derive(Clone, Copy)]
 pub struct Line {
     pub rule: u32,

@@ -51,20 +51,14 @@ fn join_line(c: Fact, i: u32, f: Fact) -> Line
 {
     let x = c.subject;
     let y = c.object;
-    let p = f.predicate;
     let o = f.object;
-    if is_name(p) {
-        line_of(2, i, i + 1, f.subject, y, o)
-    } else if p == SP {
-        line_of(1, i, i + 1, x, SP, o)
-    } else if p == DOM {
-        line_of(5, i + 1, i, x, TYPE, o)
-    } else if p == RANGE {
-        line_of(6, i + 1, i, y, TYPE, o)
-    } else if c.predicate == SC {
-        line_of(3, i, i + 1, x, SC, o)
-    } else {
-        line_of(4, i + 1, i, x, TYPE, o)
+    match f.predicate {
+        p if is_name(p) => line_of(2, i, i + 1, f.subject, y, o),
+        SP => line_of(1, i, i + 1, x, SP, o),
+        DOM => line_of(5, i + 1, i, x, TYPE, o),
+        RANGE => line_of(6, i + 1, i, y, TYPE, o),
+        _ if c.predicate == SC => line_of(3, i, i + 1, x, SC, o),
+        _ => line_of(4, i + 1, i, x, TYPE, o),
     }
 }
 

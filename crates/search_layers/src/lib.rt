@@ -2,13 +2,11 @@
 #![tactic(auto)]
 
 ghost use Rattle.std.specs.Prelude.{◌≡◌, ◌<◌};
-ghost use Rattle.question.specs.Row.{Rising};
-ghost use Rattle.question.specs.State.{empty, pushed, Left, Fresh, Seeded, Begun};
+ghost use Rattle.question.specs.State.{empty, pushed, Left, Seeded, Begun};
 
-use facts::Fact;
 use question::State;
 use search_links::{ends, follows, starts};
-use search_parts::{NOTES, part_of, starting};
+use search_parts::{NOTES, Search};
 use std::ops::Range;
 use table::PLACES;
 
@@ -34,17 +32,18 @@ fn push(s: &mut State, place: usize, layer: usize)
     s.to += 1;
 }
 
-// The first layer: marks and queues the starts, up to one that is a goal. Says whether one is.
-fn seed(facts: &[Fact], w: u32, t: Fact, s: &mut State) -> bool
-    requires { Fresh facts.now s.old }
-    ensures { Seeded facts.now w t result s.new }
+// The first layer: marks and queues the starts, up to one that is a goal. Says whether one is. The range is taken apart: tried as it is, the
+// proof has an iterator's state in place of j.
+fn seed(sought: Search, s: &mut State) -> bool
+    requires { s.old ≡ empty }
+    ensures { Seeded sought.entry.facts.now sought.entry.way sought.entry.asked result s.new }
 {
-    let Range { start, end } = starting(facts, w, t);
+    let Range { start, end } = sought.starting();
     for j in start..end {
-        let a = facts[j];
-        if starts(w, t, a) {
+        let a = sought.facts[j];
+        if starts(sought.way, sought.asked, a) {
             push(s, j, 1);
-            if ends(t, a) {
+            if ends(sought.asked, a) {
                 return true;
             }
         }
@@ -52,11 +51,11 @@ fn seed(facts: &[Fact], w: u32, t: Fact, s: &mut State) -> bool
     false
 }
 
-// The layers of a search by w for t: over the frontier, and from each place of it over the part of the facts that may follow.
+// The layers of a search: over the frontier, and from each place of it over the part of the facts that may follow.
 // A part is passed once. All passes are left as soon as a goal is reached. The outer pass is no `for`: each layer makes the next frontier.
-fn rounds(facts: &[Fact], w: u32, t: Fact, s: &mut State) -> Option<usize>
-    requires { Begun facts.now w t s.old }
-    ensures { Left facts.now w t result s.new }
+fn rounds(sought: Search, s: &mut State) -> Option<usize>
+    requires { Begun sought.facts.now sought.way sought.asked s.old }
+    ensures { Left sought.entry.facts.now sought.entry.way sought.entry.asked result s.new }
 {
     let mut layer = 1;
     let mut done = [false; NOTES];
@@ -65,13 +64,13 @@ fn rounds(facts: &[Fact], w: u32, t: Fact, s: &mut State) -> Option<usize>
             let end = s.to;
             for q in s.from..end {
                 let i = s.queue[q] as usize;
-                let a = facts[i];
-                if let Some(part) = part_of(facts, w, a, &done) {
+                let a = sought.facts[i];
+                if let Some(part) = sought.part_of(a, &done) {
                     for j in part.from..part.to {
-                        let b = facts[j];
-                        if s.mark[j] == 0 && follows(w, a, b) {
+                        let b = sought.facts[j];
+                        if s.mark[j] == 0 && follows(sought.way, a, b) {
                             push(s, j, layer + 1);
-                            if ends(t, b) {
+                            if ends(sought.asked, b) {
                                 s.from = q;
                                 break 'passes Some(layer + 1);
                             }
@@ -87,16 +86,15 @@ fn rounds(facts: &[Fact], w: u32, t: Fact, s: &mut State) -> Option<usize>
     }
 }
 
-// The search by w for t: the number of facts on a shortest path, if there is a path, and in the state what leads back along it.
+// The search: the number of facts on a shortest path, if there is a path, and in the state what leads back along it.
 // The state is lent, and may hold anything before.
-pub fn reach(facts: &[Fact], w: u32, t: Fact, s: &mut State) -> Option<usize>
-    requires { Rising facts.now }
-    ensures { Left facts.now w t result s.new }
+pub fn reach(sought: Search, s: &mut State) -> Option<usize>
+    ensures { Left sought.entry.facts.now sought.entry.way sought.entry.asked result s.new }
 {
     *s = blank();
-    if seed(facts, w, t, s) {
+    if seed(sought, s) {
         Some(1)
     } else {
-        rounds(facts, w, t, s)
+        rounds(sought, s)
     }
 }

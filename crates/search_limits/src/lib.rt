@@ -16,10 +16,7 @@ const LIMIT_MOST: u32 = 1024;
 pub fn needed_for(limit: u32) -> usize
     ensures { result ≡ needed limit }
 {
-    if limit == 0 {
-        return 0;
-    }
-    LINE_BYTES * (2 * (limit as usize) - 1)
+    LINE_BYTES * (2 * limit as usize).saturating_sub(1)
 }
 
 // The first of refusals 3, 4, 5, 12, 7 and 8 that a question to an accepted table earns, with so many bytes of output.

@@ -28,7 +28,7 @@ pub fn is_property(f: Fact) -> bool
 }
 
 // On a path by w, a chain may go on from a: from a dom or range fact only where that is the way. A way is a predicate, SP, DOM
-// or RANGE, and no enum, which each comparison with a fact's predicate would turn back into that number.
+// or RANGE, by its number, as definitions and contracts have it: an enum would be turned back into the number in each of them, and here.
 #[tactic(auto, unfolding(rules::specs::Paths::goes_on))]
 pub fn goes_on(w: u32, a: Fact) -> bool
     ensures { result ≡ goes_on w a }

@@ -3,3 +3,4 @@ pub mod Rows
 pub mod Lists
 pub mod Tables
 pub mod LineRead
+pub mod Torn

@@ -23,9 +23,8 @@ use Rattle.facts.proofs.Terms.{T_of, of_T}
 use Rattle.facts.proofs.Facts.{fault-none}
 use Rattle.table.specs.Results.{Passes, Stops}
 use Rattle.table.specs.Scans.{above, earns, tried, first_earned, onward, scan}
-use Rattle.table.specs.Judged.{judged}
 use Rattle.table.specs.Tables.{ascending, all_formed}
-use Rattle.table.proofs.Scans.{judged-line}
+use Rattle.table.proofs.Scans.{verdict-line}
 
 -- ---- scans
 
@@ -63,10 +62,10 @@ in_order false r e = let z : ◌≡◌ {A = ℕ} 0 1 = cc in absurd (omega arith
 
 -- a line earns nothing exactly where it is laid out, its fact is well-formed, and it is above the one before
 pub earns-none : (laid : Bool) (at : ℕ → Fact) (i : ℕ) → first_earned (earns laid at i) tried ≡ Sound ↔ ((laid ≡ true) × T (well_formed (at i)) × (above at i ≡ true))
-unfolding first_earned earns above judged verdict_of order_of
+unfolding first_earned earns above verdict_of order_of
 earns-none false at i = (λ e. let z : ◌≡◌ {A = ℕ} 0 1 = cc in absurd (omega arith), λ h. let z : ◌≡◌ {A = ℕ} 0 1 = cc h.0 in absurd (omega arith))
 earns-none true at i =
-    let j = judged-line at i (at (i - 1)) (λ h. refl) in (
+    let j = sym (verdict-line at i (at (i - 1)) (λ h. refl)) in (
       λ e. let p = or_sound (fault_of (at i)) _ (sym j ∙ e) in (refl, (fault-none (at i)).0 p.0, in_order (above at i) Order p.1),
       λ h. j ∙ rw ((fault-none (at i)).1 h.1, h.2) (unfold or_else in refl),
     )

@@ -1,28 +1,29 @@
 -- Laws of facts as rows and bytes, and of what a scan of them means.
 -- Assumes nothing.
-use Rattle.std.specs.Prelude.{Err}
+use Rattle.std.specs.Prelude.{Ok, Err}
 use mathlib.Core.Path.{◌≡◌, refl, sym, ap, ◌∙◌}
 use mathlib.Core.Bool.{true, false, cond}
-use mathlib.Core.List.{List, append_assoc}
+use mathlib.Core.List.{List}
 use Prim.Native.Nat.{ℕ, zero, suc, ◌+◌, ◌-◌, ◌*◌, ◌/◌, ◌%◌, ◌≤◌, ◌<◌}
 use lib.Dec.{eqb, leb}
 use borrow.Author.Tests.{eq-eqb, ne_eqb, le-leb, lt-leb, eqb-true, leb-true}
 use Rattle.facts.proofs.Terms.{by_cases}
 use native.Mathlib.Omega.{arith}
 use native.Mathlib.Nat.{zero-add}
-use native.Mathlib.Numerals.{add-one, towards_suc}
+use native.Mathlib.Numerals.{towards_suc}
 use lib.ListN.{length, take, drop, set, length-append, length-drop}
-use lib.Seq.{drop-cons, set_at, take_at}
-use Rattle.columns.specs.Lines.{over, flat, items_from}
+use lib.Seq.{drop-cons, take_at}
+use Rattle.columns.specs.Lines.{over, items_from}
 use Rattle.columns.proofs.Fields.{both}
 use Rattle.columns.proofs.Lines.{line-length}
-use Rattle.columns.proofs.Lists.{flat-length, items-length, items_more}
+use Rattle.columns.proofs.Lists.{flat-length, items-length, items_put}
 use Rattle.facts.proofs.Results.{same_parts}
 use Rattle.facts.specs.declared.Fact.{Fact}
 use Rattle.facts.specs.declared.Refusal.{Refusal}
 use Rattle.facts.specs.declared.Refusal.TheVariants.{Size, Short}
 use Rattle.facts.specs.Results.{Done, Refused, Verdict, Sound, Faulty}
 use Rattle.table.specs.Results.{Scan, Passes, Stops}
+use Rattle.table.specs.Judged.{counted}
 use Rattle.table.specs.Scans.{onward, scan}
 use Rattle.table.specs.Tables.{over_facts, line_verdict, row_verdict, terms, row_of, line_of, table_bytes, line_fact, row_fact, Table, accepted, refused, sized, meant, table_scan, table_of, row_scan, table_of_row, settled, filled, scan_of, passed, loaded}
 
@@ -41,9 +42,7 @@ over_facts-length new old h = simp (length-append, length-drop) (omega arith)
 
 -- one fact more
 pub over_facts-more : (at : ℕ → Fact) (old : List Fact) (i : ℕ) → i < length old → set (over_facts (items_from at 0 i) old) i (at i) ≡ over_facts (items_from at 0 (suc i)) old
-over_facts-more at old i h =
-    rw (items-length at 0 (suc i), items-length at 0 i, drop-cons old i (at i) h, items_more at 0 i, zero-add, append_assoc)
-    (set_at (items_from at 0 i) _ (drop (suc i) old) (at i) i (items-length at 0 i))
+over_facts-more at old i h = rw (items-length at 0 (suc i), items-length at 0 i) (items_put at old i h)
 
 -- ---- sizes
 
@@ -62,6 +61,21 @@ sized-fits k most size e h = rw (eq-eqb (size % k) 0 e, le-leb size most h)
 pub sized-says : (k most size : ℕ) → sized k most size ≡ true → (size % k ≡ 0) × (size ≤ most)
 unfolding sized
 sized-says k most size e = let b = both (eqb (size % k) 0) (leb size most) e in (eqb-true _ _ b.0, leb-true _ _ b.1)
+
+-- what a size counts
+pub counted-torn : (k most size : ℕ) {r : Refusal} → Err r ≡ counted k most size → (sized k most size ≡ false) × (r ≡ Size)
+unfolding counted
+counted-torn k most size {r} e =
+    by_cases (sized k most size)
+    (λ t. let z : Err r ≡ Ok (size / k) = rw t at e in absurd (cc))
+    (λ t. let z : Err r ≡ Err Size = rw t at e in (t, cc))
+
+pub counted-fits : (k most size : ℕ) {n : ℕ} → Ok n ≡ counted k most size → (sized k most size ≡ true) × (n ≡ size / k)
+unfolding counted
+counted-fits k most size {n} e =
+    by_cases (sized k most size)
+    (λ t. let z : Ok n ≡ Ok (size / k) = rw t at e in (t, cc))
+    (λ t. let z : Ok n ≡ Err Size = rw t at e in absurd (cc))
 
 -- ---- scans
 

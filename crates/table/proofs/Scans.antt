@@ -6,7 +6,7 @@ use Prim.Native.Nat.{ℕ, zero, suc, ◌+◌, ◌-◌, ◌<◌}
 use native.Mathlib.Omega.{arith}
 use native.Mathlib.Numerals.{add-one}
 use lib.Dec.{eqb}
-use borrow.Author.Tests.{eqb-false}
+use borrow.Author.Tests.{eqb-false, ne_eqb}
 use Rattle.facts.specs.declared.Fact.{Fact}
 use Rattle.facts.specs.declared.Refusal.{Refusal}
 use Rattle.facts.specs.declared.Refusal.TheVariants.{Term, Blank, Part, Class, Order}
@@ -16,7 +16,7 @@ use Rattle.facts.proofs.Terms.{by_cases}
 use Rattle.facts.proofs.Facts.{verdict-formed}
 use Rattle.table.specs.Results.{Passes, Stops}
 use Rattle.table.specs.Scans.{above, earns, tried, first_earned, onward, scan}
-use Rattle.table.specs.Judged.{judged}
+use Rattle.table.specs.Judged.{judged, last_before}
 
 -- tests in a row, the last of them apart
 in-turn : (a b c d e : Bool) (x y z w v : Refusal)
@@ -38,19 +38,26 @@ above-last : (at : ℕ → Fact) (i : ℕ) (last : Fact) → (0 < i → last ≡
 unfolding above
 above-last at i last h = by_cases (eqb i 0) (λ e. rw e) (λ e. let n = eqb-false i 0 e in rw (e, h (positive i n)))
 
--- a line that is laid out is judged by its fact and the fact before it
-pub judged-line : (at : ℕ → Fact) (i : ℕ) (last : Fact) → (0 < i → last ≡ at (i - 1)) → first_earned (earns true at i) tried ≡ judged (eqb i 0) last (at i)
-unfolding first_earned earns judged verdict_of order_of fault_of
-judged-line at i last h = rw (← above-last at i last h) (in-turn (has_no_term (at i)) (has_blank (at i)) (misplaced (at i)) (text_as_class (at i)) (above at i) Term Blank Part Class Order)
-
+-- a line that is laid out earns what its fact does, with last the fact before it, if there is one
 pub verdict-line : (at : ℕ → Fact) (i : ℕ) (last : Fact) → (0 < i → last ≡ at (i - 1)) → verdict_of (eqb i 0 || before last (at i)) (at i) ≡ first_earned (earns true at i) tried
-unfolding judged
-verdict-line at i last h = sym (judged-line at i last h)
+unfolding first_earned earns verdict_of order_of fault_of
+verdict-line at i last h =
+    rw (← above-last at i last h)
+    (sym (in-turn (has_no_term (at i)) (has_blank (at i)) (misplaced (at i)) (text_as_class (at i)) (above at i) Term Blank Part Class Order))
 
 -- where its fact is well-formed, by its order alone
 pub ordered-line : (at : ℕ → Fact) (i : ℕ) (last : Fact) → (0 < i → last ≡ at (i - 1)) → well_formed (at i) ≡ true
     → order_of (eqb i 0 || before last (at i)) ≡ first_earned (earns true at i) tried
 ordered-line at i last h w = sym (verdict-formed (at i) (eqb i 0 || before last (at i)) w) ∙ verdict-line at i last h
+
+-- a line that is laid out is judged by its fact and the fact before it
+pub judged-line : (at : ℕ → Fact) (i : ℕ) → first_earned (earns true at i) tried ≡ judged (last_before at i) (at i)
+unfolding judged last_before
+judged-line at zero = sym (verdict-line at 0 (at 0) (λ h. absurd (omega arith)))
+judged-line at (suc i) =
+    let n : suc i - 1 ≡ i = omega arith in
+    let z : eqb (suc i) 0 ≡ false = ne_eqb (suc i) 0 (λ e. omega (arith, e)) in
+    sym (rw z at (verdict-line at (suc i) (at i) (λ h. rw n refl)))
 
 -- a scan goes on behind a line that is sound, and stops at one that is not
 pub scan-on : (judge : ℕ → Verdict) (n i : ℕ) → i < n → judge i ≡ Sound → scan judge i (n - i) ≡ scan judge (i + 1) (n - (i + 1))

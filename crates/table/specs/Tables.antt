@@ -1,7 +1,7 @@
 -- The meaning of a table: its bytes, its row of numbers, and which of them are accepted (document 01, "Table layout" and the
 -- table of numbers).
 -- Assumes nothing.
-use Rattle.std.specs.Prelude.{Err, ◌≡◌, Bool, true, cond, ◌&&◌, List, [], ◌∷◌, ◌++◌, ℕ, zero, suc, ◌+◌, ◌-◌, ◌*◌, ◌/◌, ◌%◌, ◌≤◌, length, drop, get_or, T, leb, eqb}
+use Rattle.std.specs.Prelude.{Err, ◌≡◌, Bool, true, cond, ◌&&◌, List, [], ◌∷◌, ◌++◌, ℕ, ◌+◌, ◌-◌, ◌*◌, ◌/◌, ◌%◌, ◌≤◌, length, drop, get_or, T, leb, eqb}
 use Rattle.columns.specs.Fields.{number_at}
 use Rattle.columns.specs.Lines.{line, laid_out, over, flat, items_from}
 use Rattle.facts.specs.declared.Fact.{Fact}

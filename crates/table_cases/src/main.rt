@@ -47,18 +47,19 @@ fn read_case(to: &mut Stdout, table: &[u8], room: usize)
     requires { room ≤ 4096 }
 {
     let mut row = [NUMBER_BEFORE; NUMBERS];
-    let code = codes::code_of(reader::read(table, &mut row[..room]));
+    let answer = reader::read(table, &mut row[..room]);
+    let code = codes::code_of(answer);
     let facts = code.count as usize;
     if FACTS < facts {
         return;
     }
     let (read, unread) = row.split_at(FACT_NUMBERS * facts);
     let mut out = [BYTE_BEFORE; BYTES];
-    let again = codes::code_of(writer::write(read, &mut out));
+    let again = writer::write(read, &mut out);
     let (written, unwritten) = out.split_at(FACT_BYTES * facts);
-    let same = code.number != 0 || written == table;
+    let same = answer.is_err() || written == table;
     let kept = are_all(unread, &NUMBER_BEFORE) && are_all(unwritten, &BYTE_BEFORE);
-    show(to, code, same && kept && again.number == 0);
+    show(to, code, same && kept && again.is_ok());
 }
 
 // The number on a line of a row.
@@ -91,11 +92,11 @@ fn write_case(to: &mut Stdout, lines: &[u8], room: usize, size: usize)
     }
     let (table, unwritten) = out.split_at(FACT_BYTES * facts);
     let mut back = [NUMBER_BEFORE; NUMBERS];
-    let again = codes::code_of(reader::read(table, &mut back));
+    let again = reader::read(table, &mut back);
     let (read, unread) = back.split_at(FACT_NUMBERS * facts);
     let same = &row[..FACT_NUMBERS * facts] == read;
     let kept = are_all(unwritten, &BYTE_BEFORE) && are_all(unread, &NUMBER_BEFORE);
-    show(to, code, same && kept && again.number == 0);
+    show(to, code, same && kept && again.is_ok());
     let _ = to.write_all(table);
 }
 
@@ -121,11 +122,12 @@ impl Cases<4> for Tables {
         let [kind, _, room, size] = numbers;
         let room = room as usize;
         let size = size as usize;
-        if kind == 1 && room <= NUMBERS {
+        if kind != 1 {
+            if room <= BYTES && size <= NUMBERS {
+                write_case(&mut self.to, bytes, room, size);
+            }
+        } else if room <= NUMBERS {
             read_case(&mut self.to, bytes, room);
-        }
-        if kind != 1 && room <= BYTES && size <= NUMBERS {
-            write_case(&mut self.to, bytes, room, size);
         }
     }
 }

@@ -1,21 +1,34 @@
 // One fact of a table: read from its line, judged with the fact before it, and put into or taken from a row of numbers.
 #![tactic(auto)]
 
-ghost use Rattle.std.specs.Prelude.{◌≡◌, ◌+◌, ◌-◌, ◌*◌, ◌≤◌, length};
+ghost use Rattle.std.specs.Prelude.{◌≡◌, ◌+◌, ◌*◌, ◌≤◌, ◌<◌, length, IfOk};
 ghost use Rattle.std.proofs.lemmas.List.Edits.{sets};
 ghost use Rattle.table.specs.Tables.{terms, row_fact};
-ghost use Rattle.table.specs.Judged.{judged, line_read, NextLine, LineJudged};
+ghost use Rattle.table.specs.Judged.{counted, judged, line_read, NextLine, LineJudged};
 
-use columns::LINE_END;
 use facts::{Fact, Refusal, Verdict};
+use line_layout::numbers_at;
 use table::{FIELDS, LINE_BYTES};
 
-// The first of 3, 4, 5, 12 and 6 that f earns, with last the fact before it, if it is not the first.
-#[tactic(auto, unfolding(table::specs::Judged::judged))]
-pub fn judge(first: bool, last: Fact, f: Fact) -> Verdict
-    ensures { result ≡ judged first last f }
+// How many lines or facts make up a size, each of so many bytes or numbers: refusal 1 where a part is left, or they are too many.
+#[tactic(auto, unfolding(table::specs::Judged::counted, table::specs::Tables::sized))]
+pub fn count(size: usize, each: usize, most: usize) -> Result<usize, Refusal>
+    requires { 0 < each }
+    ensures answer { result ≡ counted each most size }
+    ensures within { IfOk result (λ n. (n * each ≡ size) × (size ≤ most)) }
 {
-    faults::verdict(first | faults::comes_before(last, f), f)
+    if (size % each == 0) & (size <= most) {
+        Ok(size / each)
+    } else {
+        Err(Refusal::Size)
+    }
+}
+
+// The first of 3, 4, 5, 12 and 6 that f earns, with last the fact before it, if there is one.
+pub fn judge(last: Option<Fact>, f: Fact) -> Verdict
+    ensures { result ≡ judged last f }
+{
+    faults::verdict(last.is_none_or(|a| a < f), f)
 }
 
 // The fact on a line, if three fields and byte 10 stand there.
@@ -23,13 +36,7 @@ fn line_fact(bytes: &[u8], i: usize) -> Option<Fact>
     requires { 16 * i + 16 ≤ length bytes.now }
     ensures { result ≡ line_read bytes.now i }
 {
-    let at = LINE_BYTES * i;
-    let subject = field_reader::field_at(bytes, at)?;
-    let predicate = field_reader::field_at(bytes, at + 5)?;
-    let object = field_reader::field_at(bytes, at + 10)?;
-    if bytes[at + 15] != LINE_END {
-        return None;
-    }
+    let [subject, predicate, object] = numbers_at::<3>(bytes, LINE_BYTES * i)?;
     Some(Fact {
         subject,
         predicate,
@@ -38,12 +45,12 @@ fn line_fact(bytes: &[u8], i: usize) -> Option<Fact>
 }
 
 // Reads and judges a line, with last the fact on the line before, if there is one: its fact, or the first refusal that it earns.
-pub fn judge_line(bytes: &[u8], i: usize, last: Fact) -> Result<Fact, Refusal>
+pub fn judge_line(bytes: &[u8], i: usize, last: Option<Fact>) -> Result<Fact, Refusal>
     requires { NextLine bytes.now i last }
     ensures { LineJudged bytes.now i result }
 {
     let f = line_fact(bytes, i).ok_or(Refusal::Column)?;
-    judge(i == 0, last, f)?;
+    judge(last, f)?;
     Ok(f)
 }
 

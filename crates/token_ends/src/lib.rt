@@ -39,13 +39,8 @@ fn suffix_end(s: &[u8], at: usize) -> Option<usize>
 {
     match byte_at(s, at) {
         AT => tag_end(s, at + 1),
-        CARET => {
-            if byte_at(s, at + 1) == CARET {
-                iri_end(s, at + 2)
-            } else {
-                None
-            }
-        }
+        CARET if byte_at(s, at + 1) == CARET => iri_end(s, at + 2),
+        CARET => None,
         _ => Some(at),
     }
 }

@@ -5,31 +5,21 @@ ghost use Rattle.std.specs.Prelude.{◌≡◌, ◌+◌, ◌-◌, ◌*◌, ◌≤
 ghost use Rattle.columns.specs.Lines.{items_from, over};
 ghost use Rattle.table.specs.Tables.{table_bytes, row_fact, table_of_row, Transfers, scan_of, all_formed};
 
-use facts::{Answer, NO_FACT, Outcome, Refusal, Refused};
+use facts::{Answer, Outcome, Refusal, Refused};
 use table::{FIELDS, LINE_BYTES, ROW_NUMBERS, Scan};
-use table_lines::{judge, row_fact};
+use table_lines::{count, judge, row_fact};
 
 // Scans the facts of a row, up to the first that is refused. `reader::load` scans lines so; one loop for both would take a closure that writes
 // into memory, and its contract would say all that stands here.
 fn scan_row(row: &[u32]) -> Scan
     ensures { result ≡ scan_of (table_of_row row.now) }
 {
-    let size = row.len();
-    if size % FIELDS != 0 {
-        return Err(Refused::from(Refusal::Size));
-    }
-    if ROW_NUMBERS < size {
-        return Err(Refused::from(Refusal::Size));
-    }
-    let n = size / FIELDS;
-    let mut last = NO_FACT;
+    let n = count(row.len(), FIELDS, ROW_NUMBERS)?;
+    let mut last = None;
     for i in 0..n {
         let f = row_fact(row, i);
-        if let Err(refusal) = judge(i == 0, last, f) {
-            let place = i as u32 + 1;
-            return Err(Refused { refusal, place });
-        }
-        last = f;
+        judge(last, f).map_err(|r| Refused::on_line(r, i))?;
+        last = Some(f);
     }
     Ok(n as u32)
 }

@@ -7,6 +7,6 @@ use Rattle.checker_pass.proofs.check_lines.Given as goal
 
 abbrev pub invariant-loop-i : goal.invariant-loop-i
 invariant-loop-i l = record {
-  passed : Passed l.table.facts.now l.fact l.derivation l.n l.i l.count;
-  behind : Behind l.derivation l.i l.last l.second_last;
+  passed : Passed l.table.facts.now l.fact l.derivation.bytes.now l.derivation.lines l.i l.count;
+  behind : Behind l.derivation.bytes.now l.i l.last l.second_last;
 }

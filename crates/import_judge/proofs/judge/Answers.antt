@@ -1,6 +1,6 @@
 -- `import_judge::judge` meets its contract. The loop's invariant: what is held and the lines that are left come to what all lines come to.
 -- Assumes nothing.
-use Rattle.std.proofs.Common.{rules}
+use Rattle.std.proofs.Common.{rules, Err}
 use mathlib.Core.Path.{◌≡◌, sym, ap, ◌∙◌}
 use mathlib.Core.List.{◌∷◌}
 use Prim.Native.Nat.{◌+◌, ◌≤◌}
@@ -30,7 +30,7 @@ loop-i-init c =
     (search rules, search rules, most, rw (l, z) (onward-all sample_fact (lines_of s) ∙ judged-sampled s c.requires))
 
 pub returns-in-Err : goal.returns-in-Err
-returns-in-Err c = sym (onward_stops sample_fact c.loop-i.held c.in-Some.i c.in-Some.line.now _ c.in-Err.refusal c.in-Err.ensures) ∙ begun (goal.at-returns-in-Err c).In-Some
+returns-in-Err c = ap Err c.on_line.ensures ∙ sym (onward_stops sample_fact c.loop-i.held c.in-Some.i c.in-Some.line.now _ c.in-Err.refusal c.in-Err.ensures) ∙ begun (goal.at-returns-in-Err c).In-Some
 
 pub loop-i-preserved : goal.loop-i-preserved
 loop-i-preserved c =

@@ -1,70 +1,77 @@
 -- `reader::load` meets its contract: where the size is refused nothing is scanned, and else the scan goes on from line to line.
 -- Assumes nothing.
-use Rattle.std.proofs.Common.{◌≡◌, ◌+◌, ◌-◌, ◌*◌, ◌/◌, List, ℕ, length, refl, sym, ◌∙◌, arith, add-one}
+use Rattle.std.proofs.Common.{◌≡◌, ◌+◌, ℕ, length, refl, sym, ap, ◌∙◌, arith, add-one, rules, Result, Ok, Err, Some}
 use native.Mathlib.Nat.{sub-zero}
 use Rattle.columns.specs.Lines.{items_from}
 use Rattle.facts.specs.declared.Fact.{Fact}
+use Rattle.facts.specs.declared.Refusal.{Refusal}
 use Rattle.facts.specs.declared.Refusal.TheVariants.{Size}
+use Rattle.facts.specs.Results.{refused_at}
 use Rattle.table.specs.Results.{Stops, Passes}
-use Rattle.table.specs.Tables.{over_facts, scan_of, table_of, loaded, line_fact, line_verdict, table_scan}
+use Rattle.table.specs.Judged.{last_before, on_line, told}
+use Rattle.table.specs.Tables.{line_fact, line_verdict, table_scan}
 use Rattle.table.proofs.Scans.{scan-on, scan-stop, scan-end}
-use Rattle.table.proofs.LineRead.{told-fact, told-refusal}
-use Rattle.table.proofs.Rows.{over_facts-more, sized-torn, sized-large, sized-fits, scan-table, loaded-none, loaded-stop, loaded-all}
+use Rattle.table.proofs.LineRead.{told-fact, told-refusal, placed-ok, placed-err}
+use Rattle.table.proofs.Rows.{over_facts-more, counted-torn, counted-fits, scan-table, loaded-none, loaded-stop, loaded-all}
 use Rattle.reader.proofs.load.Goals as goal
+use Rattle.reader.proofs.load.Goals.{After-map_err}
 
--- a size that is refused, and nothing loaded
-refused : (b : List ℕ) (facts : List Fact) → table_scan b ≡ Stops Size 0 → (Stops Size 0 ≡ scan_of (table_of b)) × (facts ≡ over_facts (loaded b) facts)
-refused b facts e = (sym (scan-table b ∙ e), loaded-none b Size e facts)
-
-pub returns-then-size-ne0 : goal.returns-then-size-ne0
+pub returns-in_err-n : goal.returns-in_err-n
 unfolding table_scan
-returns-then-size-ne0 c =
+returns-in_err-n c =
     let b = c.args.bytes.now in
-    let z = refused b c.args.facts.now (rw (sized-torn 16 16384 (length b) c.if-size-ne0.true)) in
-    record { answer = rw c.from.ensures z.0; facts = z.1 }
-
-pub returns-then-size-gt-TABLE_BYTES : goal.returns-then-size-gt-TABLE_BYTES
-unfolding table_scan
-returns-then-size-gt-TABLE_BYTES c =
-    let b = c.args.bytes.now in
-    let z = refused b c.args.facts.now (rw (sized-large 16 16384 (length b) c.if-size-gt-TABLE_BYTES.true)) in
-    record { answer = rw c.from-then-size-gt-TABLE_BYTES.ensures z.0; facts = z.1 }
+    let t = counted-torn 16 16384 (length b) c.in_err-n.ensures.answer in
+    let e : table_scan b ≡ Stops Size 0 = rw t.0 in
+    let r : c.from_residual.result ≡ Err (refused_at c.in_err-n.field-0.0 0) = search rules in
+    record { answer = r ∙ rw t.1 (sym (scan-table b ∙ e)); facts = loaded-none b Size e c.args.facts.now }
 
 pub loop-i-init : goal.loop-i-init
-unfolding table_scan items_from
-loop-i-init c = record {
-  scans = rw (sized-fits 16 16384 (length c.args.bytes.now) c.if-size-ne0.false c.if-size-gt-TABLE_BYTES.false, sub-zero);
-  before = λ h. absurd (omega arith);
-  put = refl;
-}
+unfolding table_scan items_from last_before
+loop-i-init c =
+    let f = counted-fits 16 16384 (length c.args.bytes.now) c.in_ok-n.ensures.answer in
+    record { scans = rw (f.0, f.1, sub-zero); before = refl; put = refl }
 
 pub judge_line-requires : goal.judge_line-requires
-judge_line-requires c = record { there = omega arith; before = c.loop-i.invariant.before }
+judge_line-requires c = record { there = omega (arith, c.in_ok-n.ensures.within.0, c.loop-i-test.true); before = c.loop-i.invariant.before }
 
-pub returns-in-Err : goal.returns-in-Err
-returns-in-Err c =
+-- what is found on a line, with its place
+placed : (c : After-map_err) → c.map_err.result ≡ on_line c.loop-i.i-counter (told (line_verdict c.args.bytes.now c.loop-i.i-counter) (line_fact c.args.bytes.now c.loop-i.i-counter))
+unfolding on_line
+placed c = go c.judge_line.result refl ∙ ap (on_line i) c.judge_line.ensures
+  where
+    i : ℕ
+    i = c.loop-i.i-counter
+
+    go : (v : Result Fact Refusal) → c.judge_line.result ≡ v → c.map_err.result ≡ on_line i v
+    go (Ok f) e = search rules
+    go (Err r) e = search rules
+
+pub returns-in_err-f : goal.returns-in_err-f
+returns-in_err-f c =
     let b = c.args.bytes.now in
-    let i = c.loop-i.i in
-    let e : table_scan b ≡ Stops c.in-Err.refusal (i + 1) =
-    c.loop-i.invariant.scans ∙ scan-stop (line_verdict b) (length b / 16) i (omega arith) (told-refusal (line_verdict b i) (line_fact b i) c.in-Err.refusal c.in-Err.ensures) in
-    record { answer = sym (scan-table b ∙ e); facts = c.loop-i.invariant.put ∙ rw (loaded-stop b c.in-Err.refusal i e) }
+    let i = c.loop-i.i-counter in
+    let p = placed-err _ i _ (sym c.in_err-f.was ∙ placed (goal.at-returns-in_err-f c).After-map_err) in
+    let e : table_scan b ≡ Stops p.0 (i + 1) =
+    c.loop-i.invariant.scans ∙ scan-stop (line_verdict b) c.in_ok-n.n i (omega (arith, c.loop-i-test.true)) (told-refusal (line_verdict b i) (line_fact b i) p.0 (sym p.1)) in
+    let r : c.from_residual-in_err-f.result ≡ Err c.in_err-f.field-0.0 = search rules in
+    record { answer = r ∙ ap Err p.2 ∙ sym (scan-table b ∙ e); facts = c.loop-i.invariant.put ∙ rw (loaded-stop b p.0 i e) }
 
 pub loop-i-preserved : goal.loop-i-preserved
+unfolding last_before
 loop-i-preserved c =
     let b = c.args.bytes.now in
-    let i = c.loop-i.i in
-    let told = told-fact (line_verdict b i) (line_fact b i) c.in-Ok.f c.in-Ok.ensures in
-    let n : i + 1 - 1 ≡ i = omega arith in
+    let i = c.loop-i.i-counter in
+    let told = told-fact (line_verdict b i) (line_fact b i) c.in_ok-f.f (sym (placed-ok _ i _ (sym c.in_ok-f.was ∙ placed (goal.at-loop-i-preserved c).After-map_err))) in
     record {
-      scans = c.loop-i.invariant.scans ∙ scan-on (line_verdict b) (length b / 16) i (omega arith) told.0;
-      before = λ h. rw n told.1;
-      put = rw (told.1, c.loop-i.invariant.put, add-one) (over_facts-more (line_fact b) c.args.facts.now i (omega arith));
+      scans = c.loop-i.invariant.scans ∙ scan-on (line_verdict b) c.in_ok-n.n i (omega (arith, c.loop-i-test.true)) told.0;
+      before = rw add-one (ap Some told.1);
+      put = rw (told.1, c.loop-i.invariant.put, add-one) (over_facts-more (line_fact b) c.args.facts.now i (omega (arith, c.in_ok-n.ensures.within.0, c.in_ok-n.ensures.within.1, c.loop-i-test.true)));
     }
 
 pub returns : goal.returns
 returns c =
     let b = c.args.bytes.now in
-    let n = length b / 16 in
-    let i : c.loop-i.i ≡ n = omega arith in
-    let e : table_scan b ≡ Passes n = c.loop-i.invariant.scans ∙ scan-end (line_verdict b) n c.loop-i.i i in
+    let n = c.in_ok-n.n in
+    let i : c.loop-i.i-counter ≡ n = omega (arith, c.loop-i-test.false, c.loop-i.auto.i-counter-end) in
+    let e : table_scan b ≡ Passes n = c.loop-i.invariant.scans ∙ scan-end (line_verdict b) n c.loop-i.i-counter i in
     record { answer = sym (scan-table b ∙ e); facts = c.loop-i.invariant.put ∙ rw (loaded-all b n e, i) }

@@ -1,8 +1,8 @@
 -- `reader::load_row` meets its contract: the numbers of the facts that `load` left are put into the row.
 -- Assumes nothing.
-use Rattle.std.proofs.Common.{◌≡◌, ◌≤◌, ◌∙◌, sym, ap, take, length, arith}
+use Rattle.std.proofs.Common.{◌≡◌, ◌≤◌, ◌∙◌, sym, take, length, arith}
 use Rattle.std.proofs.Math.Seq.{length-take-le}
-use Rattle.table.specs.Tables.{row_of, loaded}
+use Rattle.table.specs.Tables.{loaded}
 use Rattle.table.proofs.Rows.{passed-loaded}
 use Rattle.reader.proofs.load_row.Goals as goal
 use Rattle.reader.proofs.load_row.Goals.{After-passed-count}

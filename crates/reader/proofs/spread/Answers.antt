@@ -2,7 +2,7 @@
 -- Assumes nothing.
 use Rattle.std.proofs.Common.{◌≡◌, ◌+◌, ◌*◌, [], ◌∷◌, ◌++◌, length, get_or, take, refl, ap, ◌∙◌, arith, add-one}
 use Rattle.std.proofs.Math.Seq.{take-suc, length-take-le}
-use Rattle.columns.specs.Lines.{flat, over}
+use Rattle.columns.specs.Lines.{flat}
 use Rattle.columns.proofs.Lists.{flat_append}
 use Rattle.columns.proofs.Parts.{over-more}
 use Rattle.facts.specs.declared.TheConstants.{NO_FACT}

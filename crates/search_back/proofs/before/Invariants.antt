@@ -4,4 +4,4 @@ use Rattle.question.proofs.Steps.{Looking}
 use Rattle.search_back.proofs.before.Given as goal
 
 abbrev pub invariant-loop-q : goal.invariant-loop-q
-invariant-loop-q l = Looking l.facts l.w l.s.mark l.s.queue l.m l.b l.top l.at l.q
+invariant-loop-q l = Looking l.sought.facts.now l.sought.way l.s.mark l.s.queue l.m l.b l.top l.at l.q

@@ -6,4 +6,4 @@ use Rattle.rules.specs.Paths.{next, goal_for}
 use Rattle.search_back.proofs.first_end.Given as goal
 
 abbrev pub invariant-loop-j : goal.invariant-loop-j
-invariant-loop-j l = (b : ℕ) → l.fn.p.from ≤ b → b < l.j-counter → T (next l.w l.a (fact_in l.facts b)) → T (goal_for l.t (fact_in l.facts b)) → ⊥
+invariant-loop-j l = (b : ℕ) → l.fn.p.from ≤ b → b < l.j-counter → T (next l.sought.way l.a (fact_in l.sought.facts.now b)) → T (goal_for l.sought.asked (fact_in l.sought.facts.now b)) → ⊥

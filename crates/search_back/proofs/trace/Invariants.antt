@@ -9,4 +9,4 @@ use Rattle.search_back.proofs.trace.Given as goal
 
 abbrev pub invariant-loop-i : goal.invariant-loop-i
 invariant-loop-i l =
-    Queued (length l.facts) l.s.mark l.s.queue l.i l.top × ((m : Met l.facts l.w l.fn.t l.f l.s) → Reading l.facts l.w l.fn.t l.f l.s m l.fn.path l.i l.j l.path)
+    Queued (length l.sought.facts.now) l.s.mark l.s.queue l.i l.top × ((m : Met l.sought.facts.now l.sought.way l.sought.asked l.f l.s) → Reading l.sought.facts.now l.sought.way l.sought.asked l.f l.s m l.fn.path l.i l.j l.path)

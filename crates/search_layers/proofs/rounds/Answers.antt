@@ -28,8 +28,8 @@ bounds-s-q c = q-few (goal.at-bounds-s-q c).In-loop-q
 pub push-requires : goal.push-requires
 push-requires c =
     let l = c.loop-j in
-    let few = c.requires.rising.few in
-    let here : l.j < length c.args.facts.now = omega (arith, c.loop-j-test.true, c.in-Some.ensures.high.within) in (
+    let few = c.args.sought.rises.few in
+    let here : l.j < length c.args.sought.facts.now = omega (arith, c.loop-j-test.true, c.in-Some.ensures.high.within) in (
       omega arith,
       omega (arith, c.loop-s.invariant.0.few, c.loop-s-test.true, to-most c.loop-s.invariant.0.round.ordered),
       room _ l.s l.j few l.invariant.0.middle.round.ordered here c.if-s-j-eq0.true,
@@ -38,16 +38,16 @@ push-requires c =
 pub returns-then-ends : goal.returns-then-ends
 returns-then-ends c =
     let l = c.loop-j in
-    let here : l.j < length c.args.facts.now = omega (arith, c.loop-j-test.true, c.in-Some.ensures.high.within) in
+    let here : l.j < length c.args.sought.facts.now = omega (arith, c.loop-j-test.true, c.in-Some.ensures.high.within) in
     rw c.push.ensures (left-met _ _ _ c.loop-s.layer _
-    (inner-met _ _ _ l.j c.requires.rising.few l.invariant.0 here c.if-s-j-eq0.true (T_of _ (sym c.if-follows.ensures)) (T_of _ (sym c.if-ends.ensures))))
+    (inner-met _ _ _ l.j c.args.sought.rises.few l.invariant.0 here c.if-s-j-eq0.true (T_of _ (sym c.if-follows.ensures)) (T_of _ (sym c.if-ends.ensures))))
 
 pub loop-j-preserved : goal.loop-j-preserved
 loop-j-preserved c =
     let l = c.loop-j in
     let d = l.invariant.0 in
-    let few = c.requires.rising.few in
-    let here : l.j < length c.args.facts.now = omega (arith, c.loop-j-test.true, c.in-Some.ensures.high.within) in
+    let few = c.args.sought.rises.few in
+    let here : l.j < length c.args.sought.facts.now = omega (arith, c.loop-j-test.true, c.in-Some.ensures.high.within) in
     elim c.if-s-j-eq0.branch [
       | then-s-j-eq0+then-follows+else-ends w ↦
           let x = T_of _ (sym w.if-follows.ensures) in
@@ -67,7 +67,7 @@ loop-j-preserved c =
 pub loop-q-preserved : goal.loop-q-preserved
 loop-q-preserved c =
     let l = c.loop-q in
-    let rising = c.requires.rising in
+    let rising = c.args.sought.rises in
     elim c.match-part_of.branch [
       | in-Some+else-loop-j-test w ↦
           let k = w.loop-j in

@@ -4,4 +4,4 @@ use Rattle.question.proofs.Marks.{Seeding}
 use Rattle.search_layers.proofs.seed.Given as goal
 
 abbrev pub invariant-loop-j : goal.invariant-loop-j
-invariant-loop-j l = Seeding l.facts l.w l.t l.j l.s
+invariant-loop-j l = Seeding l.sought.facts.now l.sought.way l.sought.asked l.j l.s

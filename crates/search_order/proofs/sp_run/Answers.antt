@@ -1,25 +1,19 @@
--- `search_order::sp_run` meets its contract: the sp facts are counted up to the first other fact.
+-- `search_order::sp_run` meets its contract: the places counted are those up to the first of another fact.
 -- Assumes nothing.
-use Rattle.std.proofs.Common.{◌≡◌, ◌-◌, ◌≤◌, List, ℕ, sym, take, drop, length, length-drop, arith}
-use Rattle.std.proofs.lemmas.Bool.{ne_eqb}
+use Rattle.std.proofs.Common.{◌≡◌, List, ℕ, drop, length-drop, ◌∙◌, arith, rules, tests}
 use Rattle.std.proofs.lemmas.List.{take_all}
-use Rattle.std.proofs.lemmas.List.Sums.{prefix_len_is}
+use Rattle.std.proofs.lemmas.Iterator.{YieldsList-from_slice}
+use Rattle.std.proofs.lemmas.Iterator.Consumers.{count_from_yields_List}
+use Rattle.std.proofs.lemmas.Iterator.Search.{YieldsList-from_take_while}
+use Rattle.std.proofs.lemmas.List.Folds.{length-prefix_len}
 use Rattle.question.specs.Order.{chained}
 use Rattle.search_order.proofs.sp_run.Goals as goal
-
-pub returns-then-facts-place-ne-SP : goal.returns-then-facts-place-ne-SP
-returns-then-facts-place-ne-SP c =
-    let a = c.args in
-    let l = c.loop-k in
-    let rest : List ℕ = drop 1 a.path.now in
-    let whole : take (length a.path.now - 1) rest ≡ rest = take_all _ rest (omega (arith, length-drop 1 a.path.now)) in
-    sym (prefix_len_is (chained a.facts.now) rest l.k 0 (omega (arith, rw whole at c.loop-k-test.true)) l.invariant (λ h. ne_eqb _ 2 (rw whole at c.if-facts-place-ne-SP.true)))
 
 pub returns : goal.returns
 returns c =
     let a = c.args in
-    let l = c.loop-k in
     let rest : List ℕ = drop 1 a.path.now in
-    let whole : take (length a.path.now - 1) rest ≡ rest = take_all _ rest (omega (arith, length-drop 1 a.path.now)) in
-    let k : length rest ≤ l.k = rw whole at c.loop-k-test.false in
-    sym (prefix_len_is (chained a.facts.now) rest _ 0 (omega (arith, length-drop 1 a.path.now)) (λ j h. l.invariant j (omega (arith, length-drop 1 a.path.now))) (λ h. absurd (omega (arith, length-drop 1 a.path.now))))
+    let source : c.take_while.result.iter.rest.now ≡ rest = rw (c.take_while.ensures.source, c.iter.ensures.rest) (take_all _ rest (omega (arith, length-drop 1 a.path.now))) in
+    count_from_yields_List c.take_while.result c.count.result c.count.ensures.ran
+    (YieldsList-from_take_while _ (chained a.facts.now) (YieldsList-from_slice rest source) c.take_while.ensures.closure c.take_while.ensures.done (λ place b q k. search (rules, tests)))
+    ∙ length-prefix_len _ rest

@@ -1,6 +1,6 @@
 -- `writer::put_lines` meets its contract: a turn writes the line of one fact more behind those before.
 -- Assumes nothing.
-use Rattle.std.proofs.Common.{◌≡◌, refl, sym, ◌∙◌, List, ℕ, ◌+◌, ◌-◌, ◌*◌, ◌≤◌, length, take, drop, arith}
+use Rattle.std.proofs.Common.{◌≡◌, refl, ◌∙◌, List, ℕ, ◌+◌, ◌-◌, ◌*◌, ◌≤◌, length, take, drop, arith}
 use lib.ListN.{length-take, length-drop}
 use Rattle.columns.specs.Lines.{flat, items_from}
 use Rattle.columns.proofs.Lines.{line-length}

@@ -1,46 +1,57 @@
 -- `writer::scan_row` meets its contract: where the size is refused nothing is scanned, and else the scan goes on from fact to fact.
 -- Assumes nothing.
-use Rattle.std.proofs.Common.{◌≡◌, sym, ◌∙◌, ◌+◌, ◌-◌, ◌/◌, length, arith}
+use Rattle.std.proofs.Common.{◌≡◌, ℕ, refl, sym, ap, ◌∙◌, length, add-one, arith, rules, Some, Err}
 use native.Mathlib.Nat.{sub-zero}
+use Rattle.facts.specs.Results.{Verdict, Sound, Faulty, refused_at}
+use Rattle.table.specs.Judged.{last_before, on_line}
 use Rattle.table.specs.Tables.{row_fact, row_verdict, row_scan}
 use Rattle.table.proofs.Scans.{judged-line, scan-on, scan-stop, scan-end}
-use Rattle.table.proofs.Rows.{sized-torn, sized-large, sized-fits, scan-row}
+use Rattle.table.proofs.Rows.{counted-torn, counted-fits, scan-row}
+use Rattle.table.proofs.LineRead.{placed-ok, placed-err}
 use Rattle.writer.proofs.scan_row.Goals as goal
+use Rattle.writer.proofs.scan_row.Goals.{After-map_err}
 
-pub returns-then-size-ne0 : goal.returns-then-size-ne0
+pub returns-in_err-n : goal.returns-in_err-n
 unfolding row_scan
-returns-then-size-ne0 c = let row = c.args.row.now in rw c.from.ensures (sym (scan-row row ∙ rw (sized-torn 3 3072 (length row) c.if-size-ne0.true)))
-
-pub returns-then-size-gt-ROW_NUMBERS : goal.returns-then-size-gt-ROW_NUMBERS
-unfolding row_scan
-returns-then-size-gt-ROW_NUMBERS c =
-    let row = c.args.row.now in rw c.from-then-size-gt-ROW_NUMBERS.ensures (sym (scan-row row ∙ rw (sized-large 3 3072 (length row) c.if-size-gt-ROW_NUMBERS.true)))
+returns-in_err-n c =
+    let row = c.args.row.now in
+    let t = counted-torn 3 3072 (length row) c.in_err-n.ensures.answer in
+    let r : c.from_residual.result ≡ Err (refused_at c.in_err-n.field-0.0 0) = search rules in
+    r ∙ rw t.1 (sym (scan-row row ∙ rw t.0))
 
 pub loop-i-init : goal.loop-i-init
-unfolding row_scan
-loop-i-init c = record {
-  scans = rw (sized-fits 3 3072 (length c.args.row.now) c.if-size-ne0.false c.if-size-gt-ROW_NUMBERS.false, sub-zero);
-  before = λ h. absurd (omega arith);
-}
+unfolding row_scan last_before
+loop-i-init c = let f = counted-fits 3 3072 (length c.args.row.now) c.in_ok-n.ensures.answer in record { scans = rw (f.0, f.1, sub-zero); before = refl }
 
-pub returns-in-Err : goal.returns-in-Err
-unfolding row_verdict
-returns-in-Err c =
-    let i = c.loop-i.i in
+-- what the fact reached earns, with its place
+placed : (c : After-map_err) → c.map_err.result ≡ on_line c.loop-i.i-counter (row_verdict c.args.row.now c.loop-i.i-counter)
+unfolding on_line row_verdict
+placed c = go c.judge.result refl ∙ ap (on_line i) (c.judge.ensures ∙ rw (c.row_fact-f.ensures, c.loop-i.invariant.before) (sym (judged-line (row_fact c.args.row.now) i)))
+  where
+    i : ℕ
+    i = c.loop-i.i-counter
+
+    go : (v : Verdict) → c.judge.result ≡ v → c.map_err.result ≡ on_line i v
+    go Sound e = search rules
+    go (Faulty r) e = search rules
+
+pub returns-in_err-map_err : goal.returns-in_err-map_err
+returns-in_err-map_err c =
     let row = c.args.row.now in
-    let e : row_verdict row i ≡ _ = judged-line (row_fact row) i c.loop-i.last c.loop-i.invariant.before ∙ rw (← c.row_fact-f.ensures) (sym c.in-Err.ensures) in
-    sym (scan-row row ∙ c.loop-i.invariant.scans ∙ scan-stop (row_verdict row) (length row / 3) i (omega arith) e)
+    let i = c.loop-i.i-counter in
+    let p = placed-err _ i _ (sym c.in_err-map_err.was ∙ placed (goal.at-returns-in_err-map_err c).After-map_err) in
+    let r : c.from_residual-in_err-map_err.result ≡ Err c.in_err-map_err.field-0.0 = search rules in
+    r ∙ ap Err p.2 ∙ sym (scan-row row ∙ c.loop-i.invariant.scans ∙ scan-stop (row_verdict row) c.in_ok-n.n i (omega (arith, c.loop-i-test.true)) p.1)
 
 pub loop-i-preserved : goal.loop-i-preserved
-unfolding row_verdict
+unfolding last_before
 loop-i-preserved c =
-    let i = c.loop-i.i in
     let row = c.args.row.now in
-    let e : row_verdict row i ≡ _ = judged-line (row_fact row) i c.loop-i.last c.loop-i.invariant.before ∙ rw (← c.row_fact-f.ensures) (sym c.judge.ensures) ∙ c.in_default.is in
-    let n : i + 1 - 1 ≡ i = omega arith in
-    record { scans = c.loop-i.invariant.scans ∙ scan-on (row_verdict row) (length row / 3) i (omega arith) e; before = λ h. rw n c.row_fact-f.ensures }
+    let i = c.loop-i.i-counter in
+    let sound = placed-ok _ i _ (sym c.in_ok-map_err.was ∙ placed (goal.at-loop-i-preserved c).After-map_err) in
+    record { scans = c.loop-i.invariant.scans ∙ scan-on (row_verdict row) c.in_ok-n.n i (omega (arith, c.loop-i-test.true)) sound; before = rw add-one (ap Some c.row_fact-f.ensures) }
 
 pub returns : goal.returns
 returns c =
     let row = c.args.row.now in
-    sym (scan-row row ∙ c.loop-i.invariant.scans ∙ scan-end (row_verdict row) (length row / 3) c.loop-i.i (omega arith))
+    sym (scan-row row ∙ c.loop-i.invariant.scans ∙ scan-end (row_verdict row) c.in_ok-n.n c.loop-i.i-counter (omega (arith, c.loop-i-test.false, c.loop-i.auto.i-counter-end)))

@@ -1,23 +1,18 @@
--- `fact_keys::Keys::add` meets its contract.
+-- `fact_keys::Keys::add` meets its contract: a key that is found is there, and one that is not is put where it belongs.
 -- Assumes nothing.
-use mathlib.Core.Path.{◌∙◌}
-use native.Mathlib.Omega.{arith}
-use Rattle.gathering.specs.Keys.{key_of, Cut}
+use Rattle.std.proofs.Common.{◌∙◌, arith}
 use Rattle.gathering.proofs.Keys.{adds-held, adds-new, still-rises}
 use Rattle.fact_keys.proofs.Keys.add.Goals as goal
 
-pub returns-then-self-k : goal.returns-then-self-k
-returns-then-self-k g c gs held = adds-held _ _ gs held c.args.f c.requires.1 c.cut-k.result (omega arith) (c.if-self-k.true ∙ c.key_of-key.ensures)
-
 pub invariant_of-self : goal.invariant_of-self
-invariant_of-self g c =
-    record {
-      room = omega arith;
-      rising = rw c.insert.ensures (still-rises _ _ c.args.self.now.rising c.key_of-key.result c.cut-k.result (omega arith) c.cut-k.ensures (λ l e. grind arith));
-    }
+invariant_of-self c =
+    record { rising = rw c.insert.ensures (still-rises _ _ c.args.self.now.rising c.key_of-key.result c.in-Err.k (omega arith) c.in-Err.ensures.0 c.in-Err.ensures.1) }
 
-pub returns : goal.returns
-returns g c gs held =
+pub returns-in-Err-clause-adds : goal.returns-in-Err-clause-adds
+returns-in-Err-clause-adds c gs held =
     let e = c.key_of-key.ensures in
-    let cut : Cut c.args.self.now.row c.args.self.now.len (key_of c.args.f) c.cut-k.result = rw e at c.cut-k.ensures in
-    rw (c.insert.ensures, e) (adds-new _ _ gs held c.args.f c.requires.1 c.cut-k.result (omega arith) cut (λ l q. grind arith))
+    let p = rw e at c.in-Err.ensures in
+    rw (c.insert.ensures, e) (adds-new _ _ gs held c.args.f c.requires.1 c.in-Err.k (omega arith) p.0 p.1)
+
+pub returns-in_default-clause-adds : goal.returns-in_default-clause-adds
+returns-in_default-clause-adds c gs held = adds-held _ _ gs held c.args.f c.requires.1 c.in_default.field-0 c.in_default.ensures.0 (c.in_default.ensures.1 ∙ c.key_of-key.ensures)

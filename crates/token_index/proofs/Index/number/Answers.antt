@@ -1,15 +1,14 @@
 -- `token_index::Index::number` meets its contract.
 -- Assumes nothing.
-use mathlib.Core.Path.{◌≡◌, ap}
 use mathlib.Core.List.{List}
-use Prim.Native.Nat.{ℕ}
+use Prim.Native.Nat.{ℕ, ◌≤◌, ◌<◌}
 use native.Mathlib.Omega.{arith}
-use lib.ListN.{get_or}
+use lib.ListN.{length, get_or}
 use Rattle.std.specs.Prelude.{Err}
 use Rattle.ntriples.specs.Tokens.{Token}
-use Rattle.numbering.specs.declared.Counts.{Counts}
-use Rattle.numbering.specs.Index.{entries, next_of, Sought, Missing}
-use Rattle.numbering.proofs.Entered.{entered-found, entered-new, next-most}
+use Rattle.numbering.specs.Index.{Sought, Missing}
+use Rattle.ordered.proofs.Inserted.{inserted-length}
+use Rattle.numbering.proofs.Entered.{entered-found, entered-new, entered-ordered, next-most}
 use Rattle.token_index.proofs.Index.number.Goals as goal
 
 -- where the entry belongs
@@ -18,23 +17,36 @@ unfolding Sought
 missing input items n t r m = m
 
 pub pack-requires : goal.pack-requires
-pack-requires g c =
-    let h = c.requires in
-    let e : c.next-number.result ≡ (next_of c.args.self.now.counts (get_or c.args.input.now c.args.token.from 0)).0 = ap (λ (p : ℕ × Counts). p.0) c.next-number.ensures in
-    (omega (arith, h.some, h.within, h.few), omega (arith, h.within, h.few), rw e (next-most c.args.self.now.counts (get_or c.args.input.now c.args.token.from 0) (omega (arith, h.room, h.most))))
+pack-requires c =
+    let index = c.args.self.now in
+    let first = get_or index.input.now c.args.token.from 0 in
+    (omega (arith, index.few), omega (arith, index.few), rw c.next-number.ensures.0 (next-most index.counts first (omega (arith, index.most))))
 
 pub insert-requires : goal.insert-requires
-insert-requires g c = rw c.len-n.ensures ((missing _ _ _ _ _ c.in-Err.ensures).within, c.requires.room)
+insert-requires c = rw c.len-n.ensures ((missing _ _ _ _ _ c.in-Err.ensures).within, c.requires.2)
 
-pub returns-in-Ok : goal.returns-in-Ok
+pub invariant_of-self-clause-most : goal.invariant_of-self-clause-most
+invariant_of-self-clause-most c =
+    let items = c.args.self.now.items.now in
+    let n = c.len-n.result in
+    let within : c.in-Err.at ≤ n = rw c.len-n.ensures (missing _ _ _ _ _ c.in-Err.ensures).within in
+    let more : n < length items = rw c.len-n.ensures c.requires.2 in
+    rw c.insert.ensures (omega (arith, inserted-length items n c.in-Err.at c.pack.result within more, c.args.self.now.most))
+
+pub invariant_of-self-clause-ordered : goal.invariant_of-self-clause-ordered
+invariant_of-self-clause-ordered c =
+    let index = c.args.self.now in
+    let n = c.next-number.ensures in
+    rw (c.insert.ensures, c.pack.ensures, c.len-n.ensures, n.1, n.0)
+    (entered-ordered _ _ c.args.token.from c.args.token.to _ c.requires.0 c.requires.1 index.few index.ordered c.requires.2 index.most c.in-Err.at (missing _ _ _ _ _ c.in-Err.ensures))
+
+pub returns-in-Ok-clause-enters : goal.returns-in-Ok-clause-enters
 unfolding Sought
-returns-in-Ok g c k q = entered-found _ _ c.args.token.from c.args.token.to _ _ k q c.in-Ok.ensures
+returns-in-Ok-clause-enters c k q = entered-found _ _ c.args.token.from c.args.token.to _ _ k q c.in-Ok.ensures
 
-pub returns-in-Err : goal.returns-in-Err
-returns-in-Err g c k q =
-    let n = entries c.args.self.now.counts in
-    let m = next_of c.args.self.now.counts (get_or c.args.input.now c.args.token.from 0) in
-    let e : c.next-number.result ≡ m.0 = ap (λ (p : ℕ × Counts). p.0) c.next-number.ensures in
-    let d : c.next-number.new.counts ≡ m.1 = ap (λ (p : ℕ × Counts). p.1) c.next-number.ensures in
-    rw (c.insert.ensures, c.pack.ensures, c.len-n.ensures, d, e)
-    (entered-new _ _ c.args.token.from c.args.token.to _ c.requires c.in-Err.at (missing _ _ _ _ _ c.in-Err.ensures) k q)
+pub returns-in-Err-clause-enters : goal.returns-in-Err-clause-enters
+returns-in-Err-clause-enters c k q =
+    let index = c.args.self.now in
+    let n = c.next-number.ensures in
+    rw (c.insert.ensures, c.pack.ensures, c.len-n.ensures, n.1, n.0)
+    (entered-new _ _ c.args.token.from c.args.token.to _ c.requires.0 c.requires.1 index.few index.ordered c.requires.2 index.most c.in-Err.at (missing _ _ _ _ _ c.in-Err.ensures) k q)
