@@ -158,8 +158,8 @@ enum {
     FACTBOX_STACK_MAX = 65536           /* bytes: no call takes more */
 };
 
-/* Stack as measured on x86-64 (test_stack.c), in bytes, on full tables: factbox_question 41,384, factbox_import 33,224,
- * factbox_check 12,872, factbox_read 12,520, factbox_write 168. Where the dynamic linker looks up memcpy, memmove or memset
+/* Stack as measured on x86-64 (test_stack.c), in bytes, on full tables: factbox_question 26,104, factbox_import 33,280,
+ * factbox_check 12,808, factbox_read 12,504, factbox_write 168. Where the dynamic linker looks up memcpy, memmove or memset
  * at its first use, it takes some 3,100 bytes on top of the call that needs it. */
 
 /* Whether (subject predicate object) follows from the table, from how few of its facts, and a derivation with that many.

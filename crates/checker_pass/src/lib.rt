@@ -17,7 +17,7 @@ pub fn check_lines(table: Table, fact: Fact, derivation: Derivation) -> Answer
     let mut second_last = None;
     let mut count = 0;
     for i in 0..derivation.lines {
-        let Some(l) = derivation_lines::read_line(derivation.bytes, i) else {
+        let Ok(l) = derivation_lines::read_line(derivation.bytes, i) else {
             return Err(Refused::on_line(Refusal::Form, i));
         };
         let before = Before {

@@ -1,19 +1,18 @@
 -- Laws of derivations as bytes: their length, and that what is laid out as lines is the lines that it says, and is read as these.
 -- Assumes nothing.
-use mathlib.Core.Path.{◌≡◌, refl, sym, ◌∙◌}
-use mathlib.Core.Bool.{true, false}
+use mathlib.Core.Path.{◌≡◌, refl, sym, ap, ◌∙◌}
+use mathlib.Core.Bool.{Bool, true, false, cond, true≢false}
 use mathlib.Core.List.{List}
-use Prim.Native.Nat.{ℕ, ◌*◌, ◌<◌}
+use Prim.Native.Nat.{ℕ, ◌+◌, ◌*◌, ◌<◌}
 use native.Mathlib.Nat.{zero-add, add_assoc}
-use Rattle.std.specs.Prelude.{Some, None}
+use Rattle.std.specs.Prelude.{Option, Some, None, Result, Ok, Err, is_ok}
 use lib.ListN.{length, get_or}
+use Rattle.columns.specs.Fields.{field_read}
 use Rattle.columns.specs.Lines.{laid_out, numbers_at, numbers_read, Below, items_from}
 use Rattle.columns.proofs.Torn as lines
 use Rattle.columns.proofs.Torn.{unread-torn}
 use Rattle.columns.proofs.Lines.{line-length}
 use Rattle.columns.proofs.Lists.{flat-length, lines-written, line-placed}
-use Rattle.columns.proofs.Columns.{cond_none}
-use Rattle.std.proofs.lemmas.Option.{cond_some}
 use Rattle.facts.proofs.Facts.{fact-eq}
 use Rattle.facts.specs.Facts.{fact}
 use Rattle.rules.specs.Derivations.{derivation_line}
@@ -46,28 +45,37 @@ line-read-back d i z h below =
     let p = line-placed 6 line_numbers (λ l. refl) d i z h below in
     (p.0, line_eq (line_at (derivation_bytes d) i) (get_or d i z) (sym (numbers-line (derivation_bytes d) i) ∙ p.1))
 
--- a line is read where it is laid out, as the line that its fields say
-pub read-laid : (b : List ℕ) (i : ℕ) → laid_out 6 b (31 * i) ≡ true → read_at b i ≡ Some (line_at b i)
+-- a line is read where it is laid out, as the line that its fields say, and else field by field
+pub read-laid : (b : List ℕ) (i : ℕ) → laid_out 6 b (31 * i) ≡ true → read_at b i ≡ Ok (line_at b i)
 unfolding read_at
 read-laid b i e = rw e
 
-pub read-torn : (b : List ℕ) (i : ℕ) → laid_out 6 b (31 * i) ≡ false → read_at b i ≡ None
+pub read-torn : (b : List ℕ) (i : ℕ) → laid_out 6 b (31 * i) ≡ false → read_at b i ≡ Err (items_from (λ k. field_read b (31 * i + 5 * k)) 0 6)
 unfolding read_at
 read-torn b i e = rw e
 
 -- by the six numbers of its fields
-pub numbers-none : (b : List ℕ) (i : ℕ) → None ≡ numbers_read 6 b (31 * i) → read_at b i ≡ None
+pub numbers-none : (b : List ℕ) (i : ℕ) → None ≡ numbers_read 6 b (31 * i) → read_at b i ≡ Err (items_from (λ k. field_read b (31 * i + 5 * k)) 0 6)
 numbers-none b i e = read-torn b i (unread-torn 6 b (31 * i) e)
 
 pub numbers-some : (b : List ℕ) (i : ℕ) (ns : List ℕ) → Some ns ≡ numbers_read 6 b (31 * i)
-    → read_at b i ≡ Some (derivation_line (get_or ns 0 0) (get_or ns 1 0) (get_or ns 2 0) (fact (get_or ns 3 0) (get_or ns 4 0) (get_or ns 5 0)))
+    → read_at b i ≡ Ok (derivation_line (get_or ns 0 0) (get_or ns 1 0) (get_or ns 2 0) (fact (get_or ns 3 0) (get_or ns 4 0) (get_or ns 5 0)))
 unfolding numbers_at line_at
 numbers-some b i ns e = let r = lines.read-laid 6 b (31 * i) ns e in read-laid b i r.0 ∙ rw (← r.1) (simp add_assoc)
 
-pub some-read : (b : List ℕ) (i : ℕ) (l : Line) → read_at b i ≡ Some l → (laid_out 6 b (31 * i) ≡ true) × (line_at b i ≡ l)
-unfolding read_at
-some-read b i l e = cond_some _ _ _ e
+-- what is read tells whether the line is laid out
+cond_ok : {X E : Type 0} (t : Bool) (x y : X) (e : E) → ◌≡◌ {A = Result X E} (cond t (Ok x) (Err e)) (Ok y) → (t ≡ true) × (x ≡ y)
+cond_ok {X} {E} true x y e p = (refl, ap (λ (r : Result X E). elim r [ Ok z ↦ z | Err f ↦ x ]) p)
+cond_ok false x y e p = absurd (true≢false (ap is_ok (sym p)))
 
-pub none-read : (b : List ℕ) (i : ℕ) → read_at b i ≡ None → laid_out 6 b (31 * i) ≡ false
+cond_err : {X E : Type 0} (t : Bool) (x : X) (e f : E) → ◌≡◌ {A = Result X E} (cond t (Ok x) (Err e)) (Err f) → t ≡ false
+cond_err true x e f p = absurd (true≢false (ap is_ok p))
+cond_err false x e f p = refl
+
+pub some-read : (b : List ℕ) (i : ℕ) (l : Line) → read_at b i ≡ Ok l → (laid_out 6 b (31 * i) ≡ true) × (line_at b i ≡ l)
 unfolding read_at
-none-read b i e = cond_none _ _ e
+some-read b i l e = cond_ok _ _ _ _ e
+
+pub none-read : (b : List ℕ) (i : ℕ) (e : List (Option ℕ)) → read_at b i ≡ Err e → laid_out 6 b (31 * i) ≡ false
+unfolding read_at
+none-read b i e r = cond_err _ _ _ _ r

@@ -7,7 +7,7 @@ ghost use Rattle.derivation.specs.Bytes.{line_numbers, line_bytes, line_at};
 ghost use Rattle.derivation.specs.Read.{read_at};
 
 use facts::Fact;
-use line_layout::numbers_at;
+use line_layout::{fields_at, numbers_at};
 use rules::Line;
 
 // The bytes of a line.
@@ -35,18 +35,23 @@ pub fn fact_at(bytes: &[u8], i: usize) -> Fact
     fact_fields::fact_at(bytes, LINE_BYTES * i + 15)
 }
 
-// The line at a place, counted from 0, where its bytes are laid out as one: six fields, and byte 10 behind them.
-pub fn read_line(bytes: &[u8], i: usize) -> Option<Line>
+// The line at a place, counted from 0, where its bytes are laid out as one: six fields, and byte 10 behind them. Of a torn line, what each field
+// says by itself.
+pub fn read_line(bytes: &[u8], i: usize) -> Result<Line, [Option<u32>; 6]>
     requires { 31 * i + 31 ≤ length bytes.now }
     ensures { result ≡ read_at bytes.now i }
 {
-    let [rule, first, second, subject, predicate, object] = numbers_at::<6>(bytes, LINE_BYTES * i)?;
+    let at = LINE_BYTES * i;
+    let Some(numbers) = numbers_at::<6>(bytes, at) else {
+        return Err(fields_at::<6>(bytes, at));
+    };
+    let [rule, first, second, subject, predicate, object] = numbers;
     let fact = Fact {
         subject,
         predicate,
         object,
     };
-    Some(Line {
+    Ok(Line {
         rule,
         first,
         second,

@@ -40,7 +40,7 @@ fn import_case(to: &mut Stdout, text: &[u8], room: usize)
     let Some((table, others)) = out.split_at_checked(FACT_BYTES * code.count as usize) else {
         return;
     };
-    let kept = case_runner::are_all(others, &BYTE_BEFORE) && is_accepted(table, code.count);
+    let kept = others == &[BYTE_BEFORE; BYTES][..others.len()] && is_accepted(table, code.count);
     let _ = case_runner::print_line(to, [code.number, code.place, code.count, u32::from(kept)]);
     let _ = to.write_all(table);
 }

@@ -55,7 +55,9 @@ struct Gathered<'i, 't, 'k, 'r> {
 impl Gathered<'_, '_, '_, '_> {
     ghost use Rattle.import_collect.specs.Gathered.{SameRows, Open, Grows};
 
-    // One statement more, whose tokens stand at their spans behind a place: its tokens in the index, and its fact's key among the keys.
+    // One statement more, whose tokens stand at their spans behind a place: its tokens in the index, and its fact's key among the keys. Not inlined, as
+    // in `import_judge::statement_fault`.
+    #[inline(never)]
     fn add_statement(&mut self, at: usize, t: Triple)
         requires { Open self.old × TripleStands self.old.index.now.input.now at t }
         ensures same_rows { SameRows self.old self.new }

@@ -1,8 +1,9 @@
 // Lines of fields, read, and tried for their layout (document 01, "Table layout").
 #![tactic(auto)]
 
-ghost use Rattle.std.specs.Prelude.{◌≡◌, ◌+◌, ◌≤◌, length};
-ghost use Rattle.columns.specs.Lines.{width, laid_out, numbers_read};
+ghost use Rattle.std.specs.Prelude.{◌≡◌, ◌+◌, ◌*◌, ◌≤◌, length};
+ghost use Rattle.columns.specs.Fields.{field_read};
+ghost use Rattle.columns.specs.Lines.{width, laid_out, numbers_read, items_from};
 
 use columns::LINE_END;
 use field_reader::field_at;
@@ -25,4 +26,16 @@ pub fn numbers_at<const N: usize>(s: &[u8], at: usize) -> Option<[u32; N]>
         *number = field_at(s, at + 5 * k)?;
     }
     (s[at + 5 * N] == LINE_END).then_some(numbers)
+}
+
+// What each of the N fields from a place on says by itself: its number, where one stands.
+pub fn fields_at<const N: usize>(s: &[u8], at: usize) -> [Option<u32>; N]
+    requires { at + width N ≤ length s.now }
+    ensures { result ≡ items_from (λ k. field_read s.now (at + 5 * k)) 0 N }
+{
+    let mut fields = [None; N];
+    for (k, field) in fields.iter_mut().enumerate() {
+        *field = field_at(s, at + 5 * k);
+    }
+    fields
 }

@@ -5,8 +5,8 @@ ghost use Rattle.std.specs.Prelude.{◌≡◌, ◌≤◌, length};
 ghost use Rattle.std.specs.List.{list_any};
 ghost use Rattle.columns.specs.Lines.{over};
 ghost use Rattle.rules.specs.Graph.{least};
-ghost use Rattle.rules.specs.Chosen.{chosen_by};
-ghost use Rattle.question.specs.Trace.{optional, into, ending, Queued, Stepping, Stepped, FirstEnd, Traceable};
+ghost use Rattle.rules.specs.Chosen.{chosen_by, fact_in};
+ghost use Rattle.question.specs.Trace.{optional, into, single, ending, Queued, Stepping, Stepped, FirstEnd, Traceable};
 ghost use Rattle.question.specs.State.{Early};
 
 use facts::Fact;
@@ -35,13 +35,30 @@ fn before(sought: Search, m: usize, b: Fact, s: &State, top: usize) -> (Option<u
     (at, 0)
 }
 
+// The first place of a data fact that has the subject of t as its object, if there is one. Not inlined: in one function with the reading of the
+// table it makes that slower, and a question takes up to two percent more instructions.
+#[inline(never)]
+pub fn first_into_subject(facts: &[Fact], t: Fact) -> Option<usize>
+    ensures { result ≡ optional (least (λ j. into t.subject (fact_in facts.now j)) 0 (length facts.now)) }
+{
+    facts
+        .iter()
+        .position(|a| is_name(a.predicate) & (a.object == t.subject))
+}
+
 // A data fact has the subject of t as its object.
 pub fn leads_into_subject(facts: &[Fact], t: Fact) -> bool
     ensures { result ≡ list_any (into t.subject) facts.now }
 {
-    facts
-        .iter()
-        .any(|a| is_name(a.predicate) & (a.object == t.subject))
+    first_into_subject(facts, t).is_some()
+}
+
+// The first place of a fact that is a path for the question by itself, if there is one.
+pub fn first_alone(sought: Search) -> Option<usize>
+    ensures { result ≡ optional (least (λ j. single sought.entry.way sought.entry.asked (fact_in sought.entry.facts.now j)) 0 (length sought.entry.facts.now)) }
+{
+    let mut facts = sought.facts.iter();
+    facts.position(|a| ends(sought.asked, *a) & starts(sought.way, sought.asked, *a))
 }
 
 // The first goal of a part of the facts that may follow a, if it is before `best`, and else `best`.
@@ -71,8 +88,7 @@ fn path_end(sought: Search, m: usize, s: &State) -> Option<usize>
     ensures { result ≡ optional (least (ending sought.entry.facts.now sought.entry.way s.now.mark sought.entry.asked m) 0 (length sought.entry.facts.now)) }
 {
     if m == 0 {
-        let mut facts = sought.facts.iter();
-        return facts.position(|a| ends(sought.asked, *a) & starts(sought.way, sought.asked, *a));
+        return first_alone(sought);
     }
     let mut best = None;
     let mut done = [false; NOTES];

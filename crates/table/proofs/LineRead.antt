@@ -1,6 +1,6 @@
 -- A line read field by field: it has a fact exactly where each field is one and byte 10 ends it.
 -- Assumes nothing.
-use Rattle.std.proofs.Common.{◌≡◌, true, false, List, ℕ, ◌+◌, ◌*◌, get_or, Option, Some, None, Result, Ok, Err, refl, sym, ap, ◌∙◌, add_assoc, arith}
+use Rattle.std.proofs.Common.{◌≡◌, true, false, List, ℕ, ◌+◌, ◌-◌, ◌*◌, get_or, Option, Some, None, Result, Ok, Err, refl, sym, ap, ◌∙◌, add_assoc, arith}
 use Rattle.columns.proofs.Torn.{unread-torn, read-laid}
 use Rattle.columns.specs.Lines.{laid_out, numbers_at, numbers_read}
 use Rattle.facts.specs.declared.Fact.{Fact}
@@ -9,11 +9,12 @@ use Rattle.facts.specs.declared.Refusal.{Refusal}
 use Rattle.facts.specs.declared.Refusal.TheVariants.{Column}
 use Rattle.facts.specs.declared.Refused.{Refused}
 use Rattle.facts.specs.Results.{Verdict, Sound, Faulty, refused_at}
-use Rattle.table.specs.Scans.{earns, first_earned}
+use Rattle.table.specs.Scans.{above, earns, first_earned}
 use Rattle.table.specs.Tables.{line_fact, line_verdict}
-use Rattle.table.specs.Judged.{line_read, judged, told, on_line, NextLine}
+use Rattle.table.specs.Judged.{line_read, judged, last_before, told, on_line, LineJudged, formed_line, ByOrder}
 use Rattle.facts.proofs.Terms.{by_cases}
-use Rattle.table.proofs.Scans.{judged-line}
+use Rattle.table.proofs.Scans.{ordered-line, judged-line}
+use Rattle.table.proofs.Torn.{formed-laid}
 
 -- a line is read by its numbers
 pub numbers-none : (b : List ℕ) (i : ℕ) → None ≡ numbers_read 3 b (16 * i) → line_read b i ≡ None
@@ -39,14 +40,23 @@ unfolding line_verdict first_earned earns told
 torn-told b i e = by_cases (laid_out 3 b (16 * i)) (λ l. let z : Some (line_fact b i) ≡ None = sym (laid-read b i l) ∙ e in absurd (cc)) (λ l. rw l)
 
 -- and one with a fact earns what that does
-pub line-told : (b : List ℕ) (i : ℕ) (last : Option Fact) (f : Fact) → NextLine b i last → line_read b i ≡ Some f → told (judged last f) f ≡ told (line_verdict b i) (line_fact b i)
+pub line-told : (b : List ℕ) (i : ℕ) (last : Option Fact) (f : Fact) → last ≡ last_before (line_fact b) i → line_read b i ≡ Some f → told (judged last f) f ≡ told (line_verdict b i) (line_fact b i)
 unfolding line_verdict
-line-told b i last f n e =
+line-told b i last f h e =
     by_cases (laid_out 3 b (16 * i))
     (λ l. let g : Some (line_fact b i) ≡ Some f = sym (laid-read b i l) ∙ e in
     let k : line_fact b i ≡ f = cc in
-    rw (← k, l, n.before) (ap (λ v. told v (line_fact b i)) (sym (judged-line (line_fact b) i))))
+    rw (← k, l, h) (ap (λ v. told v (line_fact b i)) (sym (judged-line (line_fact b) i))))
     (λ l. let z : None ≡ Some f = sym (torn-read b i l) ∙ e in absurd (cc))
+
+-- where its fields say a well-formed fact, only its order is left to be tried
+pub by-order : (b : List ℕ) (i : ℕ) (r : Result Fact Refusal) → LineJudged b i r → formed_line b i ≡ true → ByOrder b i r
+unfolding line_verdict formed_line above
+by-order b i r j e =
+    let f = formed-laid b i e in
+    let laid : laid_out 3 b (16 * i) ≡ true = f.0 in
+    let o = ordered-line (line_fact b) i (line_fact b (i - 1)) (λ h. refl) f.1 in
+    record { laid = laid; order = j ∙ rw laid (ap (λ v. told v (line_fact b i)) (sym o)) }
 
 -- what is told of a verdict tells the verdict
 pub told-fact : (v : Verdict) (f g : Fact) → Ok g ≡ told v f → (v ≡ Sound) × (g ≡ f)

@@ -6,6 +6,7 @@ use Prim.Native.Nat.{ℕ, zero, suc, ◌+◌, ◌-◌, ◌<◌}
 use native.Mathlib.Omega.{arith}
 use native.Mathlib.Numerals.{add-one}
 use lib.Dec.{eqb}
+use Rattle.std.specs.Prelude.{Some, None}
 use borrow.Author.Tests.{eqb-false, ne_eqb}
 use Rattle.facts.specs.declared.Fact.{Fact}
 use Rattle.facts.specs.declared.Refusal.{Refusal}
@@ -58,6 +59,16 @@ judged-line at (suc i) =
     let n : suc i - 1 ≡ i = omega arith in
     let z : eqb (suc i) 0 ≡ false = ne_eqb (suc i) 0 (λ e. omega (arith, e)) in
     sym (rw z at (verdict-line at (suc i) (at i) (λ h. rw n refl)))
+
+-- the first has no fact before it, and any other the one at the place before
+pub last-none : (at : ℕ → Fact) (i : ℕ) → i ≡ 0 → last_before at i ≡ None
+unfolding last_before
+last-none at i e = rw e
+
+pub last-some : (at : ℕ → Fact) (i : ℕ) → 0 < i → last_before at i ≡ Some (at (i - 1))
+unfolding last_before
+last-some at zero h = absurd (omega arith)
+last-some at (suc i) h = let n : suc i - 1 ≡ i = omega arith in rw n
 
 -- a scan goes on behind a line that is sound, and stops at one that is not
 pub scan-on : (judge : ℕ → Verdict) (n i : ℕ) → i < n → judge i ≡ Sound → scan judge i (n - i) ≡ scan judge (i + 1) (n - (i + 1))

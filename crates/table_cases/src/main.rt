@@ -58,7 +58,8 @@ fn read_case(to: &mut Stdout, table: &[u8], room: usize)
     let again = writer::write(read, &mut out);
     let (written, unwritten) = out.split_at(FACT_BYTES * facts);
     let same = answer.is_err() || written == table;
-    let kept = are_all(unread, &NUMBER_BEFORE) && are_all(unwritten, &BYTE_BEFORE);
+    let kept = are_all(unread, &NUMBER_BEFORE)
+        && unwritten == &[BYTE_BEFORE; BYTES][..unwritten.len()];
     show(to, code, same && kept && again.is_ok());
 }
 
@@ -95,7 +96,8 @@ fn write_case(to: &mut Stdout, lines: &[u8], room: usize, size: usize)
     let again = reader::read(table, &mut back);
     let (read, unread) = back.split_at(FACT_NUMBERS * facts);
     let same = &row[..FACT_NUMBERS * facts] == read;
-    let kept = are_all(unwritten, &BYTE_BEFORE) && are_all(unread, &NUMBER_BEFORE);
+    let kept = unwritten == &[BYTE_BEFORE; BYTES][..unwritten.len()]
+        && are_all(unread, &NUMBER_BEFORE);
     show(to, code, same && kept && again.is_ok());
     let _ = to.write_all(table);
 }

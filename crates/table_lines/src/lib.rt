@@ -1,10 +1,10 @@
 // One fact of a table: read from its line, judged with the fact before it, and put into or taken from a row of numbers.
 #![tactic(auto)]
 
-ghost use Rattle.std.specs.Prelude.{◌≡◌, ◌+◌, ◌*◌, ◌≤◌, ◌<◌, length, IfOk};
+ghost use Rattle.std.specs.Prelude.{◌≡◌, true, ◌+◌, ◌*◌, ◌≤◌, ◌<◌, length, IfOk};
 ghost use Rattle.std.proofs.lemmas.List.Edits.{sets};
 ghost use Rattle.table.specs.Tables.{terms, row_fact};
-ghost use Rattle.table.specs.Judged.{counted, judged, line_read, NextLine, LineJudged};
+ghost use Rattle.table.specs.Judged.{counted, judged, line_read, NextLine, LineJudged, formed_line, ByOrder};
 
 use facts::{Fact, Refusal, Verdict};
 use line_layout::numbers_at;
@@ -44,12 +44,15 @@ fn line_fact(bytes: &[u8], i: usize) -> Option<Fact>
     })
 }
 
-// Reads and judges a line, with last the fact on the line before, if there is one: its fact, or the first refusal that it earns.
+// Reads and judges a line, with last the fact on the line before, if there is one: its fact, or the first refusal that it earns. Where its
+// fields say a well-formed fact, that is by its order alone.
 pub fn judge_line(bytes: &[u8], i: usize, last: Option<Fact>) -> Result<Fact, Refusal>
     requires { NextLine bytes.now i last }
-    ensures { LineJudged bytes.now i result }
+    ensures judged { LineJudged bytes.now i result }
+    ensures formed { formed_line bytes.now i ≡ true → ByOrder bytes.now i result }
 {
     let f = line_fact(bytes, i).ok_or(Refusal::Column)?;
+    let last = if i == 0 { None } else { last };
     judge(last, f)?;
     Ok(f)
 }

@@ -8,16 +8,25 @@ use byte_runs::{byte_at, run_end};
 use label_ends::{blank_end, tag_end};
 use ntriples::{AT, CARET, CLOSE, Class, OPEN, QUOTE, UNDERSCORE};
 
-// Where what begins at a place ends, if it does: a first byte, bytes of a class, and a last byte.
-fn enclosed_end(s: &[u8], at: usize, first: u8, c: Class, last: u8) -> Option<usize>
-    requires { (first ≢ 10) × (last ≢ 10) }
-    ensures { result ≡ cond (eqb (byte_at s.now at) first && eqb (byte_at s.now (run_end c s.now (at + 1))) last) (Some (run_end c s.now (at + 1) + 1)) None }
+// What stands between two bytes: the first, bytes of a class, and the last. Neither is the one that stands behind the end of a line.
+#[derive(Clone, Copy)]
+struct Enclosed {
+    first: u8,
+    class: Class,
+    last: u8,
+    ghost begins: { first ≢ 10 },
+    ghost ends: { last ≢ 10 },
+}
+
+// Where what begins at a place ends, if it does.
+fn enclosed_end(s: &[u8], at: usize, e: Enclosed) -> Option<usize>
+    ensures { result ≡ cond (eqb (byte_at s.now at) e.first && eqb (byte_at s.now (run_end e.class s.now (at + 1))) e.last) (Some (run_end e.class s.now (at + 1) + 1)) None }
 {
-    if byte_at(s, at) != first {
+    if byte_at(s, at) != e.first {
         return None;
     }
-    let end = run_end(c, s, at + 1);
-    if byte_at(s, end) != last {
+    let end = run_end(e.class, s, at + 1);
+    if byte_at(s, end) != e.last {
         return None;
     }
     Some(end + 1)
@@ -28,20 +37,24 @@ fn enclosed_end(s: &[u8], at: usize, first: u8, c: Class, last: u8) -> Option<us
 pub fn iri_end(s: &[u8], at: usize) -> Option<usize>
     ensures { result ≡ end_of (iri_end s.now at) }
 {
-    enclosed_end(s, at, OPEN, Class::Iri, CLOSE)
+    let iri = Enclosed {
+        first: OPEN,
+        class: Class::Iri,
+        last: CLOSE,
+    };
+    enclosed_end(s, at, iri)
 }
 
-// Where a literal ends whose closing quote stands before a place: not where @ or ^ comes next and no tag or datatype does.
+// Where a literal ends whose closing quote stands before a place, so that the place is not 0: not where @ or ^ comes next and no tag or datatype does.
 #[tactic(auto, unfolding(ntriples::specs::Lexed::suffix_end))]
 fn suffix_end(s: &[u8], at: usize) -> Option<usize>
-    requires { 0 < at }
     ensures { result ≡ end_of (suffix_end s.now at) }
 {
     match byte_at(s, at) {
         AT => tag_end(s, at + 1),
         CARET if byte_at(s, at + 1) == CARET => iri_end(s, at + 2),
         CARET => None,
-        _ => Some(at),
+        _ => (0 < at).then_some(at),
     }
 }
 
@@ -50,7 +63,12 @@ fn suffix_end(s: &[u8], at: usize) -> Option<usize>
 fn literal_end(s: &[u8], at: usize) -> Option<usize>
     ensures { result ≡ end_of (literal_end s.now at) }
 {
-    let end = enclosed_end(s, at, QUOTE, Class::Quoted, QUOTE)?;
+    let text = Enclosed {
+        first: QUOTE,
+        class: Class::Quoted,
+        last: QUOTE,
+    };
+    let end = enclosed_end(s, at, text)?;
     suffix_end(s, end)
 }
 

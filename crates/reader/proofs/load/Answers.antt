@@ -10,7 +10,7 @@ use Rattle.facts.specs.Results.{refused_at}
 use Rattle.table.specs.Results.{Stops, Passes}
 use Rattle.table.specs.Judged.{last_before, on_line, told}
 use Rattle.table.specs.Tables.{line_fact, line_verdict, table_scan}
-use Rattle.table.proofs.Scans.{scan-on, scan-stop, scan-end}
+use Rattle.table.proofs.Scans.{last-some, scan-on, scan-stop, scan-end}
 use Rattle.table.proofs.LineRead.{told-fact, told-refusal, placed-ok, placed-err}
 use Rattle.table.proofs.Rows.{over_facts-more, counted-torn, counted-fits, scan-table, loaded-none, loaded-stop, loaded-all}
 use Rattle.reader.proofs.load.Goals as goal
@@ -32,12 +32,12 @@ loop-i-init c =
     record { scans = rw (f.0, f.1, sub-zero); before = refl; put = refl }
 
 pub judge_line-requires : goal.judge_line-requires
-judge_line-requires c = record { there = omega (arith, c.in_ok-n.ensures.within.0, c.loop-i-test.true); before = c.loop-i.invariant.before }
+judge_line-requires c = record { there = omega (arith, c.in_ok-n.ensures.within.0, c.loop-i-test.true); before = λ h. c.loop-i.invariant.before ∙ last-some (line_fact c.args.bytes.now) c.loop-i.i-counter h }
 
 -- what is found on a line, with its place
 placed : (c : After-map_err) → c.map_err.result ≡ on_line c.loop-i.i-counter (told (line_verdict c.args.bytes.now c.loop-i.i-counter) (line_fact c.args.bytes.now c.loop-i.i-counter))
 unfolding on_line
-placed c = go c.judge_line.result refl ∙ ap (on_line i) c.judge_line.ensures
+placed c = go c.judge_line.result refl ∙ ap (on_line i) c.judge_line.ensures.judged
   where
     i : ℕ
     i = c.loop-i.i-counter

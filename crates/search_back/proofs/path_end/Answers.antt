@@ -1,21 +1,15 @@
 -- `search_back::path_end` meets its contract: a path of one fact ends where it begins. Else from each place marked m its part of the facts
 -- is passed, once, and the first goal that may follow is kept.
 -- Assumes nothing.
-use Rattle.std.proofs.Common.{sym, ◌∙◌, refl, rules, tests, arith}
-use Rattle.std.proofs.lemmas.Iterator.{YieldsList-from_slice}
-use Rattle.std.proofs.lemmas.Iterator.Search.{position_from_yields_List}
+use Rattle.std.proofs.Common.{sym, ◌∙◌, refl, arith}
 use Rattle.std.proofs.lemmas.Option.{IfSome_then}
-use Rattle.question.specs.Trace.{single}
 use Rattle.question.proofs.Parts.{behind-passed}
-use Rattle.question.proofs.Steps.{position-least, ending-begin, ending_skip, ending-more, ending-none, ending-end}
+use Rattle.question.proofs.Steps.{ending-begin, ending_skip, ending-more, ending-none, ending-end}
 use Rattle.search_back.proofs.path_end.Goals as goal
 use Rattle.search_back.proofs.path_end.Goals.{then-s-i+then-may_come_before+in-Some, then-s-i+then-may_come_before+in_default, else-s-i, else-s-i-via-then-s-i+else-may_come_before, else-s-i-via-else-s-i}
 
 pub returns-then-m-eq0 : goal.returns-then-m-eq0
-returns-then-m-eq0 c =
-    let a = c.args.sought in
-    position_from_yields_List (single a.way a.asked) _ _ c.position.result c.position.ensures.ran (YieldsList-from_slice a.facts.now cc) (λ x b q k. search (rules, tests))
-    ∙ position-least (single a.way a.asked) a.facts.now ∙ rw c.if-m-eq0.true refl
+returns-then-m-eq0 c = c.first_alone.ensures ∙ rw c.if-m-eq0.true refl
 
 pub loop-q-init : goal.loop-q-init
 loop-q-init c = ending-begin _ _ _ _ _ _ 2050 _ c.requires.1
